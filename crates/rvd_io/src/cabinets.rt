@@ -1,0 +1,35 @@
+ghost use Rattle.std.specs.Prelude.{◌≡◌, ◌≤◌, ℕ, List, Option, Some, IfOk, IsErrOf, vec_len};
+ghost use Rattle.rvd_io.specs.Causes.{Rose};
+ghost use Rattle.rvd_io.specs.Outside.{Fetches};
+
+use std::alloc::Global;
+
+/// Why a fetch gives no bytes.
+#[derive(Clone, Copy, Debug, PartialEq, Eq)]
+pub enum FetchError {
+    /// A fault of reading. The count of faults rose.
+    Failed,
+    /// The file has more bytes than the limit.
+    TooLong,
+    /// There was no memory.
+    OutOfMemory,
+}
+
+/// Where files come from, by their names.
+pub trait Cabinet {
+    /// The bytes of the file of a name, where the cabinet tells them. No call changes them.
+    ghost held: { Self → List ℕ → Option (List ℕ) };
+
+    /// How many calls have failed. The count never falls.
+    ghost faults: { Self → ℕ };
+
+    /// The bytes of the file of this name, where there are at most `limit`. It answers `Failed` only
+    /// where the count of faults rose in this call, `TooLong` exactly where more than `limit` bytes
+    /// are held (faults and want of memory aside), and `OutOfMemory` freely.
+    fn fetch(&mut self, alloc: Global, name: &str, limit: u64) -> Result<Vec<u8>, FetchError>
+        ensures held { held self.new ≡ held self.old }
+        ensures bytes { (bytes : List ℕ) → held self.old name.now ≡ Some bytes → Fetches bytes limit result }
+        ensures within { IfOk result (λ got. vec_len got ≤ limit) }
+        ensures later { faults self.old ≤ faults self.new }
+        ensures failed { IsErrOf result FetchError.Failed → Rose (faults self.old) (faults self.new) };
+}

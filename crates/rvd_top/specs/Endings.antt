@@ -1,0 +1,80 @@
+-- How a command ends on what its file holds. Use `Ends` where the file's bytes are known to be within the
+-- limit, and `EndsAbove` where they pass it.
+use Rattle.std.specs.Prelude.{◌≡◌, ℕ, ◌<◌, List, take, Option, Result, Ok, Err}
+use Rattle.std.specs.Io.KnownBytes.{Appends}
+use Rattle.rvd_fact.specs.declared.cells.Change.{Change}
+use Rattle.rvd_fact.specs.declared.causes.What.{What}
+use Rattle.rvd_fact.specs.declared.causes.What.TheVariants.{FileBytes}
+use Rattle.rvd_elf.specs.declared.refusals.ElfError.{ElfError}
+use Rattle.rvd_elf.specs.declared.refusals.ElfError.TheVariants as elf
+use Rattle.rvd_elf.specs.Import.{import_of}
+use Rattle.rvd_top.specs.declared.endings.Ending.{Ending}
+use Rattle.rvd_top.specs.declared.endings.Ending.TheVariants.{Done, Usage, ReadFault, NotThisKind, Damaged, BadText, WriteFault, Memory, TooLarge, Differs}
+use Rattle.rvd_top.specs.declared.words.Print.{Print}
+use Rattle.rvd_top.specs.Texts.{text_of}
+
+-- the exit status
+abbrev pub status_of : Ending → ℕ
+status_of Done = 0
+status_of Usage = 1
+status_of (ReadFault word) = 2
+status_of (NotThisKind refusal) = 3
+status_of (Damaged refusal) = 4
+status_of (BadText word line cause) = 5
+status_of WriteFault = 6
+status_of Memory = 7
+status_of (TooLarge what count) = 8
+status_of (Differs line) = 9
+
+-- the ending for a refusal of the import: damage, a count past its limit, no memory, or else another kind of
+-- file
+abbrev pub ending_of : ElfError → Ending
+ending_of (elf.BadEntrySize part size) = Damaged (elf.BadEntrySize part size)
+ending_of (elf.Truncated part at) = Damaged (elf.Truncated part at)
+ending_of (elf.BadRange segment) = Damaged (elf.BadRange segment)
+ending_of (elf.Overlap first second) = Damaged (elf.Overlap first second)
+ending_of (elf.BadLink link) = Damaged (elf.BadLink link)
+ending_of (elf.BadName symbol) = Damaged (elf.BadName symbol)
+ending_of (elf.TooMany what count) = TooLarge what count
+ending_of elf.OutOfMemory = Memory
+ending_of refusal = NotThisKind refusal
+
+-- How a command ends on what is imported, and what the sink then holds: where there are facts, the whole text
+-- of them, or a front of it after a fault of writing; else the ending for the refusal, and nothing is put.
+-- Memory may always run out.
+abbrev pub Prints : Option (List ℕ) → Option (List ℕ) → Print → Result (List Change) ElfError → Ending → Type 0
+Prints old new print facts Memory = Unit {0}
+Prints old new print (Ok changes) Done = Appends old new (text_of print changes)
+Prints old new print (Ok changes) WriteFault = (n : ℕ) × Appends old new (take n (text_of print changes))
+Prints old new print (Ok changes) ending = ⊥
+Prints old new print (Err refusal) Done = ⊥
+Prints old new print (Err refusal) WriteFault = ⊥
+Prints old new print (Err refusal) ending = ending ≡ ending_of refusal
+
+-- How it ends on the bytes of a file within the limit. Whether a fault of reading comes isn't told by them.
+abbrev pub Ends : Option (List ℕ) → Option (List ℕ) → Print → List ℕ → Ending → Type 0
+Ends old new print bytes (ReadFault word) = Unit {0}
+Ends old new print bytes ending = Prints old new print (import_of bytes) ending
+
+-- How it ends on the bytes of a file that pass the limit.
+abbrev pub EndsAbove : ℕ → Ending → Type 0
+EndsAbove limit Memory = Unit {0}
+EndsAbove limit (ReadFault word) = Unit {0}
+EndsAbove limit ending = ending ≡ TooLarge FileBytes limit
+
+-- the sink is as it was, but for these two endings
+abbrev pub KeepsSink : {K : Type 0} → Ending → K → K → Type 0
+KeepsSink Done old new = Unit {0}
+KeepsSink WriteFault old new = Unit {0}
+KeepsSink ending old new = new ≡ old
+
+-- a fault of reading or of writing
+abbrev pub IsFault : Ending → Type 0
+IsFault (ReadFault word) = Unit {0}
+IsFault WriteFault = Unit {0}
+IsFault ending = ⊥
+
+abbrev pub IsDoneOrMemory : Ending → Type 0
+IsDoneOrMemory Done = Unit {0}
+IsDoneOrMemory Memory = Unit {0}
+IsDoneOrMemory ending = ⊥
