@@ -11,7 +11,9 @@ pub enum Ending {
     /// The words are no command.
     Usage,
     /// A fault of reading the file of this word, counted from 0.
-    ReadFault { word: u32 },
+    ReadFault {
+        word: u32,
+    },
     /// The file is no executable of the kind that is read here.
     NotThisKind(ElfError),
     /// The file is damaged.
@@ -28,9 +30,14 @@ pub enum Ending {
     /// There was no memory.
     Memory,
     /// A count passes its limit: the number counted, and for the bytes of a file the limit itself.
-    TooLarge { what: What, count: u64 },
+    TooLarge {
+        what: What,
+        count: u64,
+    },
     /// A line of a journal, counted from 1, is missing, outside the grammar or no step.
-    Differs { line: u32 },
+    Differs {
+        line: u32,
+    },
 }
 
 impl Ending {

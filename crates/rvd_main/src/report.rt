@@ -1,0 +1,61 @@
+use rvd_fact::{TextCause, What};
+use rvd_top::Ending;
+use std::io;
+
+// The word at a place, where the words have one there.
+fn word_at(words: &[String], place: usize) -> &str {
+    match words.get(place) {
+        Some(word) => word.as_str(),
+        None => "",
+    }
+}
+
+// What a limit counts, and the limit.
+fn limit_of(what: What) -> &'static str {
+    match what {
+        What::FileBytes => "bytes of a file, at most 33554432",
+        What::Lines => "lines, at most 100000",
+        What::Blocks => "memory blocks, at most 64",
+        What::LoadedBytes => "loaded bytes, at most 4194304",
+        What::Symbols => "symbols, at most 200000",
+        What::Entries => "journal entries, at most 1000000",
+    }
+}
+
+fn cause_of(cause: TextCause) -> &'static str {
+    match cause {
+        TextCause::UnknownWord => "unknown word",
+        TextCause::MissingPart => "a part is missing",
+        TextCause::ExtraPart => "words are left over",
+        TextCause::BadAddress => "bad address",
+        TextCause::BadNumber => "bad number",
+        TextCause::BadText => "bad text",
+        TextCause::TooLong => "too long",
+    }
+}
+
+/// Prints one line about an ending other than Done to standard error.
+pub fn report(rt: &impl Eprint, words: &[String], ending: &Ending) -> io::Result<()> {
+    let file = word_at(words, 1);
+    match *ending {
+        Ending::Done => Ok(()),
+        Ending::Usage => eprintln!(rt; "usage: rvd show FILE"),
+        Ending::ReadFault { word } => {
+            let file = word_at(words, word as usize);
+            eprintln!(rt; "rvd: {file}: can't be read")
+        }
+        Ending::NotThisKind(refusal) => eprintln!(rt; "rvd: {file}: {refusal}"),
+        Ending::Damaged(refusal) => eprintln!(rt; "rvd: {file}: damaged: {refusal}"),
+        Ending::BadText { word, line, cause } => {
+            let (file, cause) = (word_at(words, word as usize), cause_of(cause));
+            eprintln!(rt; "rvd: {file}: line {line}: {cause}")
+        }
+        Ending::WriteFault => eprintln!(rt; "rvd: standard output can't be written"),
+        Ending::Memory => eprintln!(rt; "rvd: out of memory"),
+        Ending::TooLarge { what, count } => {
+            let limit = limit_of(what);
+            eprintln!(rt; "rvd: {file}: too large: {count} {limit}")
+        }
+        Ending::Differs { line } => eprintln!(rt; "rvd: the journal differs at line {line}"),
+    }
+}
