@@ -1,0 +1,3 @@
+pub mod Slots
+pub mod Primary
+pub mod BestSymbol

@@ -1,0 +1,8 @@
+ghost use Rattle.rvd_listing.specs.Names.{PrimaryLaw};
+
+/// The primary name is that of a symbol at the address of the highest source, the lowest slot among these,
+/// and there is none exactly where the address has no symbol.
+pub fn primary_law()
+    ensures { PrimaryLaw }
+{
+}

@@ -1,0 +1,18 @@
+//! How facts are written: the words of sources, kinds and classes, keys, sets of addresses and cells.
+//! The listing, the journal, scripts and event files share these spellings.
+//!
+//! * [`push_value`] appends a whole cell: the word of its source and its fact.
+//! * [`push_key`] and [`push_ranges`] append a key and a set of addresses.
+//! * [`source_word`], [`kind_word`], [`class_word`], [`perm_word`], [`init_word`] and [`hex2`] are the fixed words.
+//!
+//! Where there is no memory, a call leaves what it appends to as it was. The definitions stand in
+//! `specs/`: `Words`, and `Values` with `value_text`.
+#![tactic(auto)]
+
+mod cells;
+mod keys;
+mod words;
+
+pub use cells::push_value;
+pub use keys::{push_key, push_ranges};
+pub use words::{class_word, hex2, init_word, kind_word, perm_word, source_word};
