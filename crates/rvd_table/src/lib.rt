@@ -15,6 +15,8 @@
 
 mod place;
 mod plain;
+#[cfg(test)]
+mod tests;
 mod value;
 
 pub use plain::{Table, map_law};
