@@ -34,10 +34,11 @@ pub record IsNearest {K V : Type 0} (R : K → K → Ordering) (passes : K → B
   pub nearest : IfSome answer (λ e. (q : K) (v : V) → find R q es ≡ Some v → T (passes q) → T (precedes e.0 q))
   pub none : IfNone answer ((q : K) → T (passes q) → find R q es ≡ None)
 
--- what it means that an answer is the entry of the least key not below k, or of the greatest key not above k
+-- what it means that an answer is the entry of the least key not below k
 abbrev pub IsNext : {K V : Type 0} → (K → K → Ordering) → K → List (K × V) → Option (K × V) → Type 0
 IsNext R k = IsNearest R (λ q. is_le (R k q)) (λ a b. is_le (R a b))
 
+-- what it means that an answer is the entry of the greatest key not above k
 abbrev pub IsLast : {K V : Type 0} → (K → K → Ordering) → K → List (K × V) → Option (K × V) → Type 0
 IsLast R k = IsNearest R (λ q. is_ge (R k q)) (λ a b. is_ge (R a b))
 

@@ -3,7 +3,7 @@
 //! - `Table` is the map. It is made by `new` and `copy`, read by `get`, `next_at_or_after`, `last_at_or_before`,
 //!   `entries`, `len` and `is_empty`, and changed by `set` and `unset`.
 //! - `Copied` is what a value must be able to do, so that a map of it can be copied.
-//! - `map_law` states what reading gives after each change.
+//! - `map_law` states what reading gives after each change, and that the neighbours of a key are the nearest keys.
 //!
 //! The map is a vector of pairs in the order of their keys. Looking up takes a number of comparisons that grows as the
 //! logarithm of the number of keys. A key above the last one is appended, so that a map is built from keys that come in
@@ -13,12 +13,14 @@
 //! at a place of the vector.
 #![tactic(auto)]
 
+mod laws;
 mod place;
 mod plain;
 #[cfg(test)]
 mod tests;
 mod value;
 
-pub use plain::{Table, map_law};
+pub use laws::map_law;
+pub use plain::Table;
 pub use std::alloc::AllocError as OutOfMemory;
 pub use value::Copied;

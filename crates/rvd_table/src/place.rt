@@ -1,4 +1,4 @@
-ghost use Rattle.std.specs.Prelude.{◌≡◌, ◌<◌, ◌≤◌, ◌-◌, length, slice_get, None, IfOk, IfErr, T, find as first_where};
+ghost use Rattle.std.specs.Prelude.{◌≡◌, ◌<◌, ◌≤◌, ◌-◌, length, slice_get, None, IfOk, IfErr, T};
 ghost use Rattle.std.specs.FinMap.{is_sorted};
 ghost use Rattle.rvd_table.specs.Table.{next_entry, last_entry};
 ghost use Rattle.rvd_table.specs.Places.{IsKeyAt, IsKeyGap};

@@ -1,7 +1,7 @@
-ghost use Rattle.std.specs.Prelude.{◌≡◌, ◌↔◌, [], length, Option, Some, None, IsTrue, IfOk, OnOk, OnErr};
+ghost use Rattle.std.specs.Prelude.{◌≡◌, ◌↔◌, [], length, T, IsTrue, IfOk, OnOk, OnErr};
 ghost use Rattle.std.specs.Option.{option_map, option_copied};
-ghost use Rattle.std.specs.FinMap.{find, put};
-ghost use Rattle.rvd_table.specs.Table.{next_entry, last_entry, without, IsMapLaw};
+ghost use Rattle.std.specs.FinMap.{find, put, is_sorted};
+ghost use Rattle.rvd_table.specs.Table.{next_entry, last_entry, without};
 
 use crate::place::{count_up_to, next_place, place_of};
 use crate::value::Copied;
@@ -118,9 +118,10 @@ impl<K: Ord + Copy, V: Copied> Table<K, V> {
         Ok(Table { entries })
     }
 
-    /// The entries, key and value, in the order of the keys. It takes no memory.
+    /// The entries, key and value. Their keys strictly rise. It takes no memory.
     pub fn entries(&self) -> &[(K, V)]
-        ensures { result.now ≡ self.now }
+        ensures value { result.now ≡ self.now }
+        ensures ordered { T (is_sorted K.cmp self.now) }
     {
         &self.entries
     }
@@ -139,8 +140,3 @@ impl<K: Ord + Copy, V: Copied> Table<K, V> {
         self.entries.is_empty()
     }
 }
-
-/// What reading a map gives: after a change, and about the neighbours of a key.
-pub fn map_law<K: Ord + Copy, V: Copied>()
-    ensures { IsMapLaw V K.cmp }
-{}
