@@ -1,0 +1,133 @@
+ghost use Rattle.std.specs.Prelude.{◌≡◌};
+ghost use Rattle.rvd_decode.specs.Formats.{has_rd, has_rs1, has_rs2};
+ghost use Rattle.rvd_decode.specs.Table.{row_of, operation};
+
+use crate::insn::Op;
+
+/// A format of an instruction word: which fields it has and where.
+#[derive(Clone, Copy, Debug, PartialEq, Eq)]
+pub enum Format {
+    R,
+    I,
+    S,
+    B,
+    U,
+    J,
+    /// The I-format of a shift by a constant, whose amount stands in bits 24 to 20.
+    Shift,
+    /// No fields.
+    Bare,
+}
+
+impl Format {
+    /// Whether a destination register stands in bits 11 to 7.
+    pub fn has_rd(self) -> bool
+        ensures { result ≡ has_rd self }
+    {
+        matches!(
+            self,
+            Format::R | Format::I | Format::U | Format::J | Format::Shift
+        )
+    }
+
+    /// Whether a source register stands in bits 19 to 15.
+    pub fn has_rs1(self) -> bool
+        ensures { result ≡ has_rs1 self }
+    {
+        !matches!(self, Format::U | Format::J | Format::Bare)
+    }
+
+    /// Whether a source register stands in bits 24 to 20.
+    pub fn has_rs2(self) -> bool
+        ensures { result ≡ has_rs2 self }
+    {
+        matches!(self, Format::R | Format::S | Format::B)
+    }
+}
+
+/// A row of the table: the words of an instruction are those whose bits
+/// under `mask` are `matching`.
+#[derive(Clone, Copy, Debug, PartialEq, Eq)]
+pub struct Row {
+    pub mask: u32,
+    pub matching: u32,
+    pub format: Format,
+}
+
+macro_rules! table {
+    ($each:ident $first:expr) => {
+        $each! { $first;
+            Lui 0x0000_007f 0x0000_0037 U,
+            Auipc 0x0000_007f 0x0000_0017 U,
+            Jal 0x0000_007f 0x0000_006f J,
+            Jalr 0x0000_707f 0x0000_0067 I,
+            Beq 0x0000_707f 0x0000_0063 B,
+            Bne 0x0000_707f 0x0000_1063 B,
+            Blt 0x0000_707f 0x0000_4063 B,
+            Bge 0x0000_707f 0x0000_5063 B,
+            Bltu 0x0000_707f 0x0000_6063 B,
+            Bgeu 0x0000_707f 0x0000_7063 B,
+            Lb 0x0000_707f 0x0000_0003 I,
+            Lh 0x0000_707f 0x0000_1003 I,
+            Lw 0x0000_707f 0x0000_2003 I,
+            Lbu 0x0000_707f 0x0000_4003 I,
+            Lhu 0x0000_707f 0x0000_5003 I,
+            Sb 0x0000_707f 0x0000_0023 S,
+            Sh 0x0000_707f 0x0000_1023 S,
+            Sw 0x0000_707f 0x0000_2023 S,
+            Addi 0x0000_707f 0x0000_0013 I,
+            Slti 0x0000_707f 0x0000_2013 I,
+            Sltiu 0x0000_707f 0x0000_3013 I,
+            Xori 0x0000_707f 0x0000_4013 I,
+            Ori 0x0000_707f 0x0000_6013 I,
+            Andi 0x0000_707f 0x0000_7013 I,
+            Slli 0xfe00_707f 0x0000_1013 Shift,
+            Srli 0xfe00_707f 0x0000_5013 Shift,
+            Srai 0xfe00_707f 0x4000_5013 Shift,
+            Add 0xfe00_707f 0x0000_0033 R,
+            Sub 0xfe00_707f 0x4000_0033 R,
+            Sll 0xfe00_707f 0x0000_1033 R,
+            Slt 0xfe00_707f 0x0000_2033 R,
+            Sltu 0xfe00_707f 0x0000_3033 R,
+            Xor 0xfe00_707f 0x0000_4033 R,
+            Srl 0xfe00_707f 0x0000_5033 R,
+            Sra 0xfe00_707f 0x4000_5033 R,
+            Or 0xfe00_707f 0x0000_6033 R,
+            And 0xfe00_707f 0x0000_7033 R,
+            Fence 0x0000_707f 0x0000_000f Bare,
+            Ecall 0xffff_ffff 0x0000_0073 Bare,
+            Ebreak 0xffff_ffff 0x0010_0073 Bare
+        }
+    };
+}
+
+macro_rules! row_named {
+    ($name:expr; $($op:ident $mask:literal $matching:literal $format:ident),*) => {
+        match $name {
+            $(Op::$op => Row { mask: $mask, matching: $matching, format: Format::$format },)*
+        }
+    };
+}
+
+macro_rules! first_match {
+    ($word:expr; $($op:ident $mask:literal $matching:literal $format:ident),*) => {{
+        $(if $word & $mask == $matching {
+            return Some(Op::$op);
+        })*
+        None
+    }};
+}
+
+/// The row of an instruction.
+pub fn row_of(op: Op) -> Row
+    ensures { result ≡ row_of op }
+{
+    table!(row_named op)
+}
+
+/// The name of the row that a word matches.
+pub fn operation(word: u32) -> Option<Op>
+    ensures { result ≡ operation word }
+{
+    table!(first_match word)
+}
