@@ -1,3 +1,4 @@
 pub mod Instruction
 pub mod Formats
 pub mod Table
+pub mod OpcodeMap

@@ -3,7 +3,8 @@ ghost use Rattle.rvd_decode.specs.Table.{read_as, instruction, field};
 
 use crate::fields::{bits, immediate};
 use crate::insn::{Insn, Op};
-use crate::table::{operation, row_of};
+use crate::opcode_map::operation;
+use crate::table::row_of;
 
 // A register's number, or 0 where the format lacks the field.
 fn register(present: bool, number: u32) -> u8

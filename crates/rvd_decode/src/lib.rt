@@ -7,6 +7,7 @@
 mod decoding;
 mod fields;
 pub mod insn;
+mod opcode_map;
 mod table;
 
 pub use decoding::decode;

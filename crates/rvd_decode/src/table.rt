@@ -126,6 +126,7 @@ pub fn row_of(op: Op) -> Row
 }
 
 /// The name of the row that a word matches.
+#[tactic(auto, unfolding(crate::specs::Table::operation))]
 pub fn operation(word: u32) -> Option<Op>
     ensures { result ≡ operation word }
 {
