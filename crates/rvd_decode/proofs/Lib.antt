@@ -1,3 +1,5 @@
 pub mod Masks
 pub mod Rows
 pub mod Places
+pub mod Words
+pub mod RoundTrip

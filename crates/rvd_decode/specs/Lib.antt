@@ -2,3 +2,4 @@ pub mod Instruction
 pub mod Formats
 pub mod Table
 pub mod OpcodeMap
+pub mod Encoding

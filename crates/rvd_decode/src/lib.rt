@@ -5,10 +5,12 @@
 #![tactic(auto)]
 
 mod decoding;
+mod encoding;
 mod fields;
 pub mod insn;
 mod opcode_map;
 mod table;
 
 pub use decoding::decode;
+pub use encoding::encode;
 pub use insn::{Insn, Op};

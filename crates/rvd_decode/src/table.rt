@@ -55,8 +55,8 @@ pub struct Row {
 }
 
 macro_rules! table {
-    ($each:ident $first:expr) => {
-        $each! { $first;
+    ($each:ident $($first:expr)?) => {
+        $each! { $($first)?;
             Lui 0x0000_007f 0x0000_0037 U,
             Auipc 0x0000_007f 0x0000_0017 U,
             Jal 0x0000_007f 0x0000_006f J,
@@ -101,11 +101,9 @@ macro_rules! table {
     };
 }
 
-macro_rules! row_named {
-    ($name:expr; $($op:ident $mask:literal $matching:literal $format:ident),*) => {
-        match $name {
-            $(Op::$op => Row { mask: $mask, matching: $matching, format: Format::$format },)*
-        }
+macro_rules! rows {
+    (; $($op:ident $mask:literal $matching:literal $format:ident),*) => {
+        [$(Row { mask: $mask, matching: $matching, format: Format::$format }),*]
     };
 }
 
@@ -122,7 +120,8 @@ macro_rules! first_match {
 pub fn row_of(op: Op) -> Row
     ensures { result ≡ row_of op }
 {
-    table!(row_named op)
+    static ROWS: [Row; 40] = table!(rows);
+    ROWS[op as usize]
 }
 
 /// The name of the row that a word matches.
