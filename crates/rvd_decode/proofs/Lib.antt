@@ -3,3 +3,5 @@ pub mod Rows
 pub mod Places
 pub mod Words
 pub mod RoundTrip
+pub mod Names
+pub mod Hex

@@ -1,6 +1,6 @@
 -- What the masks of the table keep of a word, by division and remainder. Use these to turn a row's test into facts on
 -- the fields opcode (w % 128), funct3 (w / 4096 % 8) and funct7 (w / 33554432).
-use Rattle.std.proofs.Common.{◌≡◌, ℕ, ◌+◌, ◌*◌, ◌/◌, ◌%◌, ◌<◌, ◌≤◌, sym, ap, ◌∙◌, bit_and, arith}
+use Rattle.std.proofs.Common.{◌≡◌, ℕ, ◌+◌, ◌*◌, ◌/◌, ◌%◌, sym, ap, ◌∙◌, bit_and, arith}
 use Rattle.std.proofs.lemmas.Nat.{and_block, and_mask, shr_split}
 use Rattle.std.proofs.lemmas.Nat.Bits.{and_high}
 

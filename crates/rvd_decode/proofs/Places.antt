@@ -1,10 +1,10 @@
 -- A word that matches a row finds its operation, or the twin of it, at the word's place of the opcode map (`placed`).
-use Rattle.std.proofs.Common.{◌≡◌, ℕ, zero, suc, ◌+◌, ◌*◌, ◌/◌, ◌%◌, ◌<◌, true, false, Option, Some, None, [], get_or, refl, sym, subst, ◌∙◌, inl, inr, ◌⊎◌, bit_and, arith}
+use Rattle.std.proofs.Common.{◌≡◌, ℕ, zero, suc, ◌+◌, ◌*◌, ◌/◌, ◌%◌, ◌<◌, true, false, Option, Some, None, [], get_or, refl, sym, subst, ◌∙◌, inl, inr, bit_and, arith}
 use Rattle.std.proofs.lemmas.Bool.{eqb-true, false≢true}
 use Rattle.rvd_decode.specs.declared.insn.Op.{Op}
 use Rattle.rvd_decode.specs.declared.insn.Op.TheVariants.{Lui, Auipc, Jal, Jalr, Beq, Bne, Blt, Bge, Bltu, Bgeu, Lb, Lh, Lw, Lbu, Lhu, Sb, Sh, Sw, Addi, Slti, Sltiu, Xori, Ori, Andi, Slli, Srli, Srai, Add, Sub, Sll, Slt, Sltu, Xor, Srl, Sra, Or, And, Fence, Ecall, Ebreak}
 use Rattle.rvd_decode.specs.declared.opcode_map.TheConstants.{OPCODE_MAP}
-use Rattle.rvd_decode.specs.Table.{row_of, matches}
+use Rattle.rvd_decode.specs.Table.{matches}
 use Rattle.rvd_decode.specs.OpcodeMap.{twin, IsAmong}
 use Rattle.rvd_decode.proofs.Masks.{keeps_7f, keeps_707f, keeps_fe00707f, keeps_ffffffff}
 

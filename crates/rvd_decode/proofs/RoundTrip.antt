@@ -1,18 +1,17 @@
 -- The word of an instruction is read as that instruction (`decoded`). A lemma for each format says so for its rows.
-use Rattle.std.proofs.Common.{◌≡◌, ℕ, ◌+◌, ◌-◌, ◌*◌, ◌/◌, ◌%◌, ◌^◌, ◌<◌, ◌≤◌, Bool, true, false, cond, Option, Some, refl, sym, ap, ◌∙◌, bit_and, arith, ℤ, pos, negsuc, lit<}
-use Rattle.std.specs.Prelude.{nat_lt, ◌==◌}
+use Rattle.std.proofs.Common.{◌≡◌, ℕ, ◌+◌, ◌-◌, ◌*◌, ◌/◌, ◌%◌, ◌<◌, ◌≤◌, Bool, true, cond, Some, refl, sym, ap, ◌∙◌, bit_and, arith, ℤ, pos, negsuc, lit<}
+use Rattle.std.specs.Prelude.{nat_lt}
 use Rattle.std.specs.Option.{option_map}
 use Rattle.std.proofs.lemmas.Bool.{eq-eqb, lt-ltb, le-ltb}
 use Rattle.rvd_decode.specs.declared.insn.Op.{Op}
 use Rattle.rvd_decode.specs.declared.insn.Op.TheVariants.{Lui, Auipc, Jal, Jalr, Beq, Bne, Blt, Bge, Bltu, Bgeu, Lb, Lh, Lw, Lbu, Lhu, Sb, Sh, Sw, Addi, Slti, Sltiu, Xori, Ori, Andi, Slli, Srli, Srai, Add, Sub, Sll, Slt, Sltu, Xor, Srl, Sra, Or, And, Fence, Ecall, Ebreak}
-use Rattle.rvd_decode.specs.declared.table.Format.{Format}
 use Rattle.rvd_decode.specs.declared.table.Format.TheVariants as format
 use Rattle.rvd_decode.specs.declared.table.Row.{Row}
 use Rattle.rvd_decode.specs.Instruction.{Instruction}
-use Rattle.rvd_decode.specs.Formats.{IsOfFormat, IsSigned, IsMultiple, signed}
-use Rattle.rvd_decode.specs.Table.{row, row_of, read, read_as, matches, operation, instruction, IsInstruction}
+use Rattle.rvd_decode.specs.Formats.{IsOfFormat, IsMultiple, signed}
+use Rattle.rvd_decode.specs.Table.{row, row_of, read, read_as, matches, instruction, IsInstruction}
 use Rattle.rvd_decode.specs.Encoding.{complement, operands, encoding}
-use Rattle.rvd_decode.proofs.Words.{six, IsSix, HasSix, has_six, i_value, s_value, b_value, u_value, j_value, opcode_kept, funct3_kept, funct7_kept}
+use Rattle.rvd_decode.proofs.Words.{six, IsSix, has_six, i_value, s_value, b_value, u_value, j_value, opcode_kept, funct3_kept, funct7_kept}
 use Rattle.rvd_decode.proofs.Rows.{operation-matched}
 
 -- a number's magnitude is below half
@@ -80,7 +79,6 @@ record Kept (op : Op) (r : Row) (w : ℕ) (i : Instruction) : Type 0 where
 abbrev Keeps : Op → Row → (rd rs1 rs2 : ℕ) → ℤ → Type 0
 Keeps op r rd rs1 rs2 imm = IsOfFormat r.format (ins op rd rs1 rs2 imm) → Kept op r (r.matching + operands r.format (ins op rd rs1 rs2 imm)) (ins op rd rs1 rs2 imm)
 
-
 kept_u : (op : Op) (o : ℕ) → o < 128 → (rd rs1 rs2 : ℕ) (imm : ℤ) → Keeps op (row 127 o format.U) rd rs1 rs2 imm
 kept_u op o lo rd rs1 rs2 imm h =
     let u = complement imm in
@@ -100,7 +98,7 @@ kept_u op o lo rd rs1 rs2 imm h =
     let back : signed 32 (w / 4096 % 1048576 * 4096) ≡ imm = signed_low 2147483648 (w / 4096 % 1048576 * 4096) imm h.imm.0 value in
     record {
       matched = opcode_kept w o rd _ _ _ _ s;
-      is_read = λ j. record { op = op; rd = s.rd_is j; rs1 = sym no_rs1 j; rs2 = sym no_rs2 j; imm = back j }
+      is_read = λ j. record { op = op; rd = s.rd_is j; rs1 = sym no_rs1 j; rs2 = sym no_rs2 j; imm = back j };
     }
 
 kept_j : (op : Op) (o : ℕ) → o < 128 → (rd rs1 rs2 : ℕ) (imm : ℤ) → Keeps op (row 127 o format.J) rd rs1 rs2 imm
@@ -126,7 +124,7 @@ kept_j op o lo rd rs1 rs2 imm h =
     let value = j_value w o rd _ _ _ _ s ∙ (λ j. a_is j * 1048576 + d_is j * 4096 + c_is j * 2048 + b_is j * 2) ∙ joined ∙ low_21 imm h.imm.0 in
     record {
       matched = opcode_kept w o rd _ _ _ _ s;
-      is_read = λ j. record { op = op; rd = s.rd_is j; rs1 = sym no_rs1 j; rs2 = sym no_rs2 j; imm = signed_low 1048576 _ imm h.imm.0 value j }
+      is_read = λ j. record { op = op; rd = s.rd_is j; rs1 = sym no_rs1 j; rs2 = sym no_rs2 j; imm = signed_low 1048576 _ imm h.imm.0 value j };
     }
 
 kept_i : (op : Op) (o f : ℕ) → o < 128 → f < 8 → (rd rs1 rs2 : ℕ) (imm : ℤ) → Keeps op (row 28799 (o + f * 4096) format.I) rd rs1 rs2 imm
@@ -143,7 +141,7 @@ kept_i op o f lo lf rd rs1 rs2 imm h =
     let value = i_value w o rd f rs1 _ _ s ∙ joined ∙ low_12 imm h.imm in
     record {
       matched = funct3_kept w o rd f rs1 _ _ s;
-      is_read = λ j. record { op = op; rd = s.rd_is j; rs1 = s.rs1_is j; rs2 = sym no_rs2 j; imm = signed_low 2048 _ imm h.imm value j }
+      is_read = λ j. record { op = op; rd = s.rd_is j; rs1 = s.rs1_is j; rs2 = sym no_rs2 j; imm = signed_low 2048 _ imm h.imm value j };
     }
 
 kept_s : (op : Op) (o f : ℕ) → o < 128 → f < 8 → (rd rs1 rs2 : ℕ) (imm : ℤ) → Keeps op (row 28799 (o + f * 4096) format.S) rd rs1 rs2 imm
@@ -160,7 +158,7 @@ kept_s op o f lo lf rd rs1 rs2 imm h =
     let value = s_value w o _ f rs1 rs2 _ s ∙ joined ∙ low_12 imm h.imm in
     record {
       matched = funct3_kept w o _ f rs1 rs2 _ s;
-      is_read = λ j. record { op = op; rd = sym no_rd j; rs1 = s.rs1_is j; rs2 = s.rs2_is j; imm = signed_low 2048 _ imm h.imm value j }
+      is_read = λ j. record { op = op; rd = sym no_rd j; rs1 = s.rs1_is j; rs2 = s.rs2_is j; imm = signed_low 2048 _ imm h.imm value j };
     }
 
 kept_b : (op : Op) (o f : ℕ) → o < 128 → f < 8 → (rd rs1 rs2 : ℕ) (imm : ℤ) → Keeps op (row 28799 (o + f * 4096) format.B) rd rs1 rs2 imm
@@ -186,7 +184,7 @@ kept_b op o f lo lf rd rs1 rs2 imm h =
     let value = b_value w o _ f rs1 rs2 _ s ∙ (λ j. a_is j * 4096 + d_is j * 2048 + b_is j * 32 + c_is j * 2) ∙ joined ∙ low_13 imm h.imm.0 in
     record {
       matched = funct3_kept w o _ f rs1 rs2 _ s;
-      is_read = λ j. record { op = op; rd = sym no_rd j; rs1 = s.rs1_is j; rs2 = s.rs2_is j; imm = signed_low 4096 _ imm h.imm.0 value j }
+      is_read = λ j. record { op = op; rd = sym no_rd j; rs1 = s.rs1_is j; rs2 = s.rs2_is j; imm = signed_low 4096 _ imm h.imm.0 value j };
     }
 
 kept_shift : (op : Op) (o f g : ℕ) → o < 128 → f < 8 → g < 128 → (rd rs1 rs2 : ℕ) (imm : ℤ) → Keeps op (row 4261441663 (o + f * 4096 + g * 33554432) format.Shift) rd rs1 rs2 imm
@@ -202,7 +200,7 @@ kept_shift op o f g lo lf lg rd rs1 rs2 (pos n) h =
     let s = has_six w o rd f rs1 n g ranges is in
     record {
       matched = funct7_kept w o rd f rs1 n g s;
-      is_read = λ j. record { op = op; rd = s.rd_is j; rs1 = s.rs1_is j; rs2 = sym no_rs2 j; imm = pos (s.rs2_is j) }
+      is_read = λ j. record { op = op; rd = s.rd_is j; rs1 = s.rs1_is j; rs2 = sym no_rs2 j; imm = pos (s.rs2_is j) };
     }
 
 kept_r : (op : Op) (o f g : ℕ) → o < 128 → f < 8 → g < 128 → (rd rs1 rs2 : ℕ) (imm : ℤ) → Keeps op (row 4261441663 (o + f * 4096 + g * 33554432) format.R) rd rs1 rs2 imm
@@ -216,7 +214,7 @@ kept_r op o f g lo lf lg rd rs1 rs2 imm h =
     let s = has_six w o rd f rs1 rs2 g ranges is in
     record {
       matched = funct7_kept w o rd f rs1 rs2 g s;
-      is_read = λ j. record { op = op; rd = s.rd_is j; rs1 = s.rs1_is j; rs2 = s.rs2_is j; imm = sym h.imm j }
+      is_read = λ j. record { op = op; rd = s.rd_is j; rs1 = s.rs1_is j; rs2 = s.rs2_is j; imm = sym h.imm j };
     }
 
 kept_bare : (op : Op) (mask v : ℕ) → bit_and v mask ≡ v → (rd rs1 rs2 : ℕ) (imm : ℤ) → Keeps op (row mask v format.Bare) rd rs1 rs2 imm
@@ -227,7 +225,7 @@ kept_bare op mask v m rd rs1 rs2 imm h =
     let is : v + (rd * 128 + rs1 * 32768 + rs2 * 1048576 + 0) ≡ v = omega arith in
     record {
       matched = ap (λ x. bit_and x mask) is ∙ m;
-      is_read = λ j. record { op = op; rd = sym no_rd j; rs1 = sym no_rs1 j; rs2 = sym no_rs2 j; imm = sym h.imm j }
+      is_read = λ j. record { op = op; rd = sym no_rd j; rs1 = sym no_rs1 j; rs2 = sym no_rs2 j; imm = sym h.imm j };
     }
 
 -- each instruction of the table

@@ -1,8 +1,8 @@
 -- No word matches two rows. The checker computes that each two rows ask for different bits where both look; so the operation
 -- of a word is the one whose row it matches (`operation-matched`), and there is none where it matches no row
 -- (`operation-unmatched`).
-use Rattle.std.proofs.Common.{◌≡◌, ℕ, ◌<◌, Bool, true, false, not, cond, ◌&&◌, Option, Some, None, List, [], ◌∷◌, length, get_or, zero, suc, refl, sym, ap, ◌∙◌, bit_and, arith, lit<}
-use Rattle.std.specs.Prelude.{find, ◌==◌}
+use Rattle.std.proofs.Common.{◌≡◌, ℕ, ◌<◌, Bool, true, false, not, cond, Some, None, List, [], ◌∷◌, length, get_or, zero, suc, refl, sym, ap, ◌∙◌, bit_and, arith, lit<}
+use Rattle.std.specs.Prelude.{find}
 use Rattle.std.specs.List.{list_all}
 use Rattle.std.proofs.lemmas.Bool.{and_parts, eqb-true, eq-eqb, false≢true}
 use Rattle.std.proofs.lemmas.Nat.{and_assoc, and_comm}

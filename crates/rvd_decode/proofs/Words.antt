@@ -1,6 +1,6 @@
 -- A word from its six fields opcode, rd, funct3, rs1, rs2 and funct7, and back. Use `six` to compare words field by field:
 -- each format's fields are made of these six.
-use Rattle.std.proofs.Common.{◌≡◌, ℕ, ◌+◌, ◌-◌, ◌*◌, ◌/◌, ◌%◌, ◌^◌, ◌<◌, ◌≤◌, refl, sym, ap, ◌∙◌, bit_and, arith}
+use Rattle.std.proofs.Common.{◌≡◌, ℕ, ◌+◌, ◌*◌, ◌/◌, ◌%◌, ◌<◌, ◌∙◌, bit_and, arith}
 use Rattle.rvd_decode.proofs.Masks.{keeps_7f, keeps_707f, keeps_fe00707f}
 
 -- the word with six fields
@@ -33,7 +33,7 @@ module _ (w c0 c1 c2 c3 c4 c5 : ℕ) where
     funct3_is = omega arith;
     rs1_is = omega arith;
     rs2_is = omega arith;
-    funct7_is = omega arith
+    funct7_is = omega arith;
   }
 
   -- the immediates' bits by the six fields

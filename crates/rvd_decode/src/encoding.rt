@@ -34,7 +34,8 @@ pub fn encode(insn: &Insn) -> u32
     ensures decodes { instruction result ≡ Some insn.now }
 {
     let row = row_of(insn.op);
-    let registers =
-        (u32::from(insn.rd) << 7) + (u32::from(insn.rs1) << 15) + (u32::from(insn.rs2) << 20);
+    let registers = (u32::from(insn.rd) << 7)
+        + (u32::from(insn.rs1) << 15)
+        + (u32::from(insn.rs2) << 20);
     row.matching + (registers + placed(row.format, insn.imm.cast_unsigned()))
 }

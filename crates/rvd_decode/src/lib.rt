@@ -7,10 +7,15 @@
 mod decoding;
 mod encoding;
 mod fields;
+mod flow;
 pub mod insn;
 mod opcode_map;
+mod printing;
 mod table;
 
 pub use decoding::decode;
 pub use encoding::encode;
+pub use flow::{falls_through, is_call, is_jump};
 pub use insn::{Insn, Op};
+pub use printing::text;
+pub use std::alloc::AllocError as OutOfMemory;

@@ -1,6 +1,7 @@
 ghost use Rattle.std.specs.Prelude.{◌≡◌};
 ghost use Rattle.rvd_decode.specs.Formats.{has_rd, has_rs1, has_rs2};
 ghost use Rattle.rvd_decode.specs.Table.{row_of, operation};
+ghost use Rattle.rvd_decode.specs.Text.{mnemonic};
 
 use crate::insn::Op;
 
@@ -57,58 +58,64 @@ pub struct Row {
 macro_rules! table {
     ($each:ident $($first:expr)?) => {
         $each! { $($first)?;
-            Lui 0x0000_007f 0x0000_0037 U,
-            Auipc 0x0000_007f 0x0000_0017 U,
-            Jal 0x0000_007f 0x0000_006f J,
-            Jalr 0x0000_707f 0x0000_0067 I,
-            Beq 0x0000_707f 0x0000_0063 B,
-            Bne 0x0000_707f 0x0000_1063 B,
-            Blt 0x0000_707f 0x0000_4063 B,
-            Bge 0x0000_707f 0x0000_5063 B,
-            Bltu 0x0000_707f 0x0000_6063 B,
-            Bgeu 0x0000_707f 0x0000_7063 B,
-            Lb 0x0000_707f 0x0000_0003 I,
-            Lh 0x0000_707f 0x0000_1003 I,
-            Lw 0x0000_707f 0x0000_2003 I,
-            Lbu 0x0000_707f 0x0000_4003 I,
-            Lhu 0x0000_707f 0x0000_5003 I,
-            Sb 0x0000_707f 0x0000_0023 S,
-            Sh 0x0000_707f 0x0000_1023 S,
-            Sw 0x0000_707f 0x0000_2023 S,
-            Addi 0x0000_707f 0x0000_0013 I,
-            Slti 0x0000_707f 0x0000_2013 I,
-            Sltiu 0x0000_707f 0x0000_3013 I,
-            Xori 0x0000_707f 0x0000_4013 I,
-            Ori 0x0000_707f 0x0000_6013 I,
-            Andi 0x0000_707f 0x0000_7013 I,
-            Slli 0xfe00_707f 0x0000_1013 Shift,
-            Srli 0xfe00_707f 0x0000_5013 Shift,
-            Srai 0xfe00_707f 0x4000_5013 Shift,
-            Add 0xfe00_707f 0x0000_0033 R,
-            Sub 0xfe00_707f 0x4000_0033 R,
-            Sll 0xfe00_707f 0x0000_1033 R,
-            Slt 0xfe00_707f 0x0000_2033 R,
-            Sltu 0xfe00_707f 0x0000_3033 R,
-            Xor 0xfe00_707f 0x0000_4033 R,
-            Srl 0xfe00_707f 0x0000_5033 R,
-            Sra 0xfe00_707f 0x4000_5033 R,
-            Or 0xfe00_707f 0x0000_6033 R,
-            And 0xfe00_707f 0x0000_7033 R,
-            Fence 0x0000_707f 0x0000_000f Bare,
-            Ecall 0xffff_ffff 0x0000_0073 Bare,
-            Ebreak 0xffff_ffff 0x0010_0073 Bare
+            Lui "lui" 0x0000_007f 0x0000_0037 U,
+            Auipc "auipc" 0x0000_007f 0x0000_0017 U,
+            Jal "jal" 0x0000_007f 0x0000_006f J,
+            Jalr "jalr" 0x0000_707f 0x0000_0067 I,
+            Beq "beq" 0x0000_707f 0x0000_0063 B,
+            Bne "bne" 0x0000_707f 0x0000_1063 B,
+            Blt "blt" 0x0000_707f 0x0000_4063 B,
+            Bge "bge" 0x0000_707f 0x0000_5063 B,
+            Bltu "bltu" 0x0000_707f 0x0000_6063 B,
+            Bgeu "bgeu" 0x0000_707f 0x0000_7063 B,
+            Lb "lb" 0x0000_707f 0x0000_0003 I,
+            Lh "lh" 0x0000_707f 0x0000_1003 I,
+            Lw "lw" 0x0000_707f 0x0000_2003 I,
+            Lbu "lbu" 0x0000_707f 0x0000_4003 I,
+            Lhu "lhu" 0x0000_707f 0x0000_5003 I,
+            Sb "sb" 0x0000_707f 0x0000_0023 S,
+            Sh "sh" 0x0000_707f 0x0000_1023 S,
+            Sw "sw" 0x0000_707f 0x0000_2023 S,
+            Addi "addi" 0x0000_707f 0x0000_0013 I,
+            Slti "slti" 0x0000_707f 0x0000_2013 I,
+            Sltiu "sltiu" 0x0000_707f 0x0000_3013 I,
+            Xori "xori" 0x0000_707f 0x0000_4013 I,
+            Ori "ori" 0x0000_707f 0x0000_6013 I,
+            Andi "andi" 0x0000_707f 0x0000_7013 I,
+            Slli "slli" 0xfe00_707f 0x0000_1013 Shift,
+            Srli "srli" 0xfe00_707f 0x0000_5013 Shift,
+            Srai "srai" 0xfe00_707f 0x4000_5013 Shift,
+            Add "add" 0xfe00_707f 0x0000_0033 R,
+            Sub "sub" 0xfe00_707f 0x4000_0033 R,
+            Sll "sll" 0xfe00_707f 0x0000_1033 R,
+            Slt "slt" 0xfe00_707f 0x0000_2033 R,
+            Sltu "sltu" 0xfe00_707f 0x0000_3033 R,
+            Xor "xor" 0xfe00_707f 0x0000_4033 R,
+            Srl "srl" 0xfe00_707f 0x0000_5033 R,
+            Sra "sra" 0xfe00_707f 0x4000_5033 R,
+            Or "or" 0xfe00_707f 0x0000_6033 R,
+            And "and" 0xfe00_707f 0x0000_7033 R,
+            Fence "fence" 0x0000_707f 0x0000_000f Bare,
+            Ecall "ecall" 0xffff_ffff 0x0000_0073 Bare,
+            Ebreak "ebreak" 0xffff_ffff 0x0010_0073 Bare
         }
     };
 }
 
 macro_rules! rows {
-    (; $($op:ident $mask:literal $matching:literal $format:ident),*) => {
+    (; $($op:ident $mnemonic:literal $mask:literal $matching:literal $format:ident),*) => {
         [$(Row { mask: $mask, matching: $matching, format: Format::$format }),*]
     };
 }
 
+macro_rules! mnemonics {
+    (; $($op:ident $mnemonic:literal $mask:literal $matching:literal $format:ident),*) => {
+        [$($mnemonic),*]
+    };
+}
+
 macro_rules! first_match {
-    ($word:expr; $($op:ident $mask:literal $matching:literal $format:ident),*) => {{
+    ($word:expr; $($op:ident $mnemonic:literal $mask:literal $matching:literal $format:ident),*) => {{
         $(if $word & $mask == $matching {
             return Some(Op::$op);
         })*
@@ -122,6 +129,14 @@ pub fn row_of(op: Op) -> Row
 {
     static ROWS: [Row; 40] = table!(rows);
     ROWS[op as usize]
+}
+
+/// The mnemonic of an instruction.
+pub fn mnemonic(op: Op) -> &'static str
+    ensures { result.now ≡ mnemonic op }
+{
+    static MNEMONICS: [&str; 40] = table!(mnemonics);
+    MNEMONICS[op as usize]
 }
 
 /// The name of the row that a word matches.
