@@ -14,7 +14,8 @@ fn register(present: bool, number: u32) -> u8
     if present { number as u8 } else { 0 }
 }
 
-fn read_as(word: u32, op: Op) -> Insn
+/// The instruction of an operation with the fields of a word.
+pub fn read_as(word: u32, op: Op) -> Insn
     ensures { result ≡ read_as word op }
 {
     let format = row_of(op).format;

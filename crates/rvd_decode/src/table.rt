@@ -139,9 +139,9 @@ pub fn mnemonic(op: Op) -> &'static str
     MNEMONICS[op as usize]
 }
 
-/// The name of the row that a word matches.
+/// The name of the row that a word matches, found by going through the rows in their order.
 #[tactic(auto, unfolding(crate::specs::Table::operation))]
-pub fn operation(word: u32) -> Option<Op>
+pub fn walk(word: u32) -> Option<Op>
     ensures { result ≡ operation word }
 {
     table!(first_match word)
