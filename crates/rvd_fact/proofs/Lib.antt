@@ -4,4 +4,9 @@ pub mod Programs
 pub mod Scans
 pub mod Placing
 pub mod Validity
+pub mod RangeLists
+pub mod RangeEquality
+pub mod RangeJoins
+pub mod RangeCuts
+pub mod RangeGaps
 mod WorkedRows
