@@ -13,6 +13,9 @@
 
 mod change_lists;
 mod kept;
+mod memory;
+mod refs;
+mod spans;
 mod valid_map;
 
 pub use std::alloc::AllocError as OutOfMemory;
