@@ -1,0 +1,22 @@
+//! The program that is disassembled: a valid map from keys to cells.
+//!
+//! * [`Program`] is the map. It is made by `empty` and `copy`, read by `cell` and `next_cell`, and changed by
+//!   `apply` and `revert`.
+//!
+//! A program is valid at every moment. The cells stand in a table in the order of their keys, so that a cell is found
+//! in a time that grows as the logarithm of their number, and a program is built from facts in the order of their keys
+//! in a time that grows as their number.
+//!
+//! What a program is, when it is valid and what changes do to it is defined in rvd_fact (`Program`, `Memory` and
+//! `Valid`); `specs/Lookup.antt` adds what a look-up by order finds.
+#![tactic(auto)]
+
+mod change_lists;
+mod kept;
+mod memory;
+mod refs;
+mod spans;
+mod valid_map;
+
+pub use std::alloc::AllocError as OutOfMemory;
+pub use valid_map::Program;

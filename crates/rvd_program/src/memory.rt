@@ -1,0 +1,104 @@
+ghost use Rattle.std.specs.Prelude.{◌≡◌, ◌≤◌, IfOk};
+ghost use Rattle.rvd_fact.specs.Memory.{cover, block, bytes, bytes_in};
+
+use crate::kept::Kept;
+use crate::spans::{block_len, unit_len};
+use crate::valid_map::Program;
+use rvd_fact::{Addr, Bytes, Key, Value};
+use std::alloc::{AllocError, Global};
+
+impl Program {
+    /// The start of the present unit that has the byte at an address, or None where none has it. It takes no memory.
+    pub fn cover(&self, at: Addr) -> Option<Addr>
+        ensures { result ≡ cover self.now at }
+    {
+        first_cover(self.entries(), at)
+    }
+
+    /// The start of the block around an address, or None where there is none. It takes no memory.
+    pub fn block(&self, at: Addr) -> Option<Addr>
+        ensures { result ≡ block self.now at }
+    {
+        first_block(self.entries(), at)
+    }
+
+    /// The `len` bytes from an address on, or None where `len` is 0 or they don't lie in one initialised block. Only
+    /// want of memory refuses it.
+    pub fn bytes(&self, alloc: Global, at: Addr, len: u16) -> Result<Option<Bytes>, AllocError>
+        ensures { IfOk result (λ answer. answer ≡ bytes self.now at len) }
+    {
+        range_bytes(alloc, self.entries(), at, len)
+    }
+}
+
+fn first_cover(entries: &[(Key, Kept)], at: Addr) -> Option<Addr>
+    ensures { result ≡ cover entries.now at }
+{
+    for entry in entries {
+        let start = entry.0.at;
+        if start <= at && at - start < unit_len(&entry.1.cell().value) {
+            return Some(start);
+        }
+    }
+    None
+}
+
+fn first_block(entries: &[(Key, Kept)], at: Addr) -> Option<Addr>
+    ensures { result ≡ block entries.now at }
+{
+    for entry in entries {
+        let start = entry.0.at;
+        if start <= at && at - start < block_len(&entry.1.cell().value) {
+            return Some(start);
+        }
+    }
+    None
+}
+
+fn range_bytes(
+    alloc: Global,
+    entries: &[(Key, Kept)],
+    at: Addr,
+    len: u16,
+) -> Result<Option<Bytes>, AllocError>
+    ensures { IfOk result (λ answer. answer ≡ bytes entries.now at len) }
+{
+    for entry in entries {
+        let start = entry.0.at;
+        let value = &entry.1.cell().value;
+        if start <= at && at - start < block_len(value) {
+            return bytes_in(alloc, start, at, len, value);
+        }
+    }
+    Ok(None)
+}
+
+// The bytes of a range from a block's bytes.
+fn bytes_in(
+    alloc: Global,
+    start: Addr,
+    at: Addr,
+    len: u16,
+    value: &Value,
+) -> Result<Option<Bytes>, AllocError>
+    requires { start ≤ at }
+    ensures { IfOk result (λ answer. answer ≡ bytes_in start at len value.now) }
+{
+    match value {
+        Value::Block {
+            bytes: Some(all),
+            ..
+        } => {
+            let all = all.list();
+            let from = (at - start) as usize;
+            let len = usize::from(len);
+            if len > 0 && from + len <= all.len() {
+                let list = all[from..from + len].to_vec(alloc)?;
+                Ok(Some(Bytes::of(alloc, list)?))
+            } else {
+                Ok(None)
+            }
+        }
+        _ => Ok(None),
+    }
+}
