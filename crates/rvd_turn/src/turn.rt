@@ -4,13 +4,14 @@ ghost use Rattle.rvd_turn.specs.Story.{owned, Continues, IsPrefix};
 ghost use Rattle.rvd_turn.specs.Known.{first_pass, split_off, met_by, taken_by, given_by, HoldsAll};
 ghost use Rattle.rvd_turn.specs.Steps.{IsServed};
 
+use crate::OutOfMemory;
 use crate::pass::Pass;
 use crate::rule::TurnRule;
 use crate::steps::{Compare, Cut, Draw, Look, Meet, Number, On};
 use crate::storied::Storied;
 use crate::view::View;
 use atomic_table::{Seat, Table};
-use std::alloc::{AllocError, AllocFailed, Global};
+use std::alloc::Global;
 use std::marker::Model;
 use std::snapshot::Snapshot;
 use std::sync::Wait;
@@ -51,7 +52,7 @@ impl<T: Storied> Model for Turn<T> {
 impl<T: Storied> Turn<T> {
     /// A turn round `value`, whose story has no entries yet, and its first pass, which has number 0.
     /// Where memory runs out, it answers `OutOfMemory` and the value is dropped.
-    pub fn new(alloc: Global, value: T) -> Result<(Turn<T>, Pass<T>), AllocError>
+    pub fn new(alloc: Global, value: T) -> Result<(Turn<T>, Pass<T>), OutOfMemory>
     where
         T: Drop,
         requires { T.entries value ≡ [] }
@@ -61,7 +62,7 @@ impl<T: Storied> Turn<T> {
         let mut slots = Vec::new(alloc);
         slots.push(Some(value))?;
         let Ok((table, seat)) = Table::new(alloc, &[0, 0, 1], slots, &about) else {
-            return Err(AllocError);
+            return Err(OutOfMemory);
         };
         Ok((Turn { table }, Pass { seat }))
     }
@@ -71,7 +72,7 @@ impl<T: Storied> Turn<T> {
     ///
     /// *made* is above 0 exactly at the pass that holds number 0. After `OutOfMemory`, the one error, `pass` is
     /// as before. Today's split takes no memory; a caller may not rely on that.
-    pub fn split(&self, _alloc: Global, pass: &mut Pass<T>) -> Result<Pass<T>, AllocError>
+    pub fn split(&self, _alloc: Global, pass: &mut Pass<T>) -> Result<Pass<T>, OutOfMemory>
         requires this_turn { pass.old.turn_id ≡ self.now }
         requires holds_zero { 0 < pass.old.made }
         requires few { pass.old.made < 2 ^ 63 }
@@ -87,8 +88,8 @@ impl<T: Storied> Turn<T> {
     /// Waits for the turn and takes the value. The value's story begins with all that the pass has seen, and
     /// has of the pass's number, and of each number that it met, just that pass's own entries, in order.
     ///
-    /// Threads get the turn in the order in which they asked for it. That each of them gets it at last is not
-    /// claimed: a pass that is dropped, or waits for something else, while it has the turn keeps it.
+    /// It takes no memory, and may wait. That the turn ever comes is not claimed: a pass that is dropped while it
+    /// has the turn keeps it.
     pub fn take<R: Wait>(&self, rt: &R, pass: &mut Pass<T>) -> T
         requires this_turn { pass.old.turn_id ≡ self.now }
         requires no_turn { pass.old.turn ≡ false }
@@ -105,7 +106,7 @@ impl<T: Storied> Turn<T> {
     }
 
     /// Gives the value back: its story is the one that was taken, followed by entries of the pass's number
-    /// alone, none or more. The pass's own entries gain these, and the next thread in order has the turn.
+    /// alone, none or more. The pass's own entries gain these. It takes no memory and doesn't wait.
     pub fn give(&self, pass: &mut Pass<T>, value: T)
         requires this_turn { pass.old.turn_id ≡ self.now }
         requires turn { pass.old.turn ≡ true }

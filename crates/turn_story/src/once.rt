@@ -3,7 +3,7 @@ ghost use Rattle.std.specs.Prelude.{◌≡◌, ◌+◌, ◌<◌, [], IfOk};
 
 use crate::story::Story;
 use rvd_turn::{OutOfMemory, Turn};
-use std::alloc::{AllocError, Global};
+use std::alloc::Global;
 
 /// A turn round a new story is split once and met again, and closes to the story that it was made with.
 pub fn split_and_meet(alloc: Global, title: u32) -> Result<Story, OutOfMemory>

@@ -1,6 +1,6 @@
 use crate::{Note, OutOfMemory, Story, Writer, split_and_meet, write_together};
 use rvd_turn::{Storied, Turn};
-use std::alloc::{AllocError, Global};
+use std::alloc::Global;
 use std::test::Fail;
 
 fn numbers_below(alloc: Global, end: u64) -> Result<Vec<u64>, OutOfMemory> {

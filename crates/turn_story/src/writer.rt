@@ -6,7 +6,7 @@ ghost use Rattle.turn_story.specs.Written.{note};
 
 use crate::story::{Note, Story};
 use rvd_turn::{OutOfMemory, Pass, Turn};
-use std::alloc::{AllocError, Global};
+use std::alloc::Global;
 use std::marker::Model;
 use std::sync::Wait;
 
