@@ -1,0 +1,14 @@
+pub mod Lists
+pub mod Prefixes
+pub mod Owned
+pub mod Queue
+pub mod Holders
+pub mod Frame
+pub mod Told
+pub mod Opening
+pub mod Splitting
+pub mod Joining
+pub mod Waiting
+pub mod Giving
+pub mod Closing
+pub mod Meetings
