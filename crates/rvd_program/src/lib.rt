@@ -18,5 +18,6 @@ mod refs;
 mod spans;
 mod valid_map;
 
+pub use kept::Kept;
 pub use std::alloc::AllocError as OutOfMemory;
 pub use valid_map::Program;

@@ -48,7 +48,8 @@ impl Program {
 
     /// The least key that isn't below `from`, with its cell, or None where each key is below. It takes no memory.
     pub fn next_cell(&self, from: Key) -> Option<(Key, &Cell)>
-        ensures { option_map (λ e. (e.0, e.1.now)) result ≡ next_entry self.now from }
+        ensures valid { IsValid self.now }
+        ensures next { option_map (λ e. (e.0, e.1.now)) result ≡ next_entry self.now from }
     {
         match self.cells.next_at_or_after(&from) {
             None => None,
@@ -65,7 +66,7 @@ impl Program {
     }
 
     /// The entries, key and cell, in the order of the keys.
-    pub(crate) fn entries(&self) -> &[(Key, Kept)]
+    pub fn entries(&self) -> &[(Key, Kept)]
         ensures entries { result.now ≡ self.now }
         ensures valid { IsValid self.now }
     {

@@ -22,7 +22,7 @@ mod tests;
 
 pub use decimal::push_dec;
 pub use errors::{TEXT_LIMIT, TextError};
-pub use hex::{push_hex8, read_hex};
+pub use hex::{digit, push_hex8, read_hex};
 pub use laws::text_law;
 pub use quoted::push_quoted;
 pub use reading::read_quoted;
