@@ -1,0 +1,12 @@
+//! Imports the facts of an RV32I executable from its ELF file.
+#![tactic(auto)]
+
+mod facts;
+mod fields;
+mod header;
+mod imports;
+mod refusals;
+mod segment;
+
+pub use imports::import;
+pub use refusals::{ElfError, Part};
