@@ -7,6 +7,7 @@ use Rattle.rvd_elf.specs.declared.refusals.ElfError.{ElfError}
 use Rattle.rvd_elf.specs.Steps.{◌>>=◌, GivesBy}
 use Rattle.rvd_elf.specs.Header.{header_of}
 use Rattle.rvd_elf.specs.Segment.{memory_of}
+use Rattle.rvd_elf.specs.Symbol.{symbols_of}
 use Rattle.rvd_elf.specs.Facts.{changes_of, facts_of, with_facts}
 
 -- the facts of a file in key order, or the first refusal
@@ -14,7 +15,8 @@ unfoldable pub import_of : List ℕ → Result (List Change) ElfError
 import_of b = do
   h ← header_of b
   regions ← memory_of b h
-  Ok (changes_of (with_facts [] (facts_of b h regions)))
+  symbols ← symbols_of b h
+  Ok (changes_of (with_facts [] (facts_of b h regions symbols)))
 
 -- an import gives what is imported, unless memory ran out
 abbrev pub Gives : Result (Vec Change Global) ElfError → Result (List Change) ElfError → Type 0

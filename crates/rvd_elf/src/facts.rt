@@ -4,11 +4,14 @@ ghost use Rattle.std.specs.FinMap.{put};
 ghost use Rattle.rvd_fact.specs.Order.{key_cmp};
 ghost use Rattle.rvd_fact.specs.Memory.{key_of};
 ghost use Rattle.rvd_elf.specs.Segment.{IsRegion};
-ghost use Rattle.rvd_elf.specs.Facts.{block_fact, bytes_of, changes_of, facts_of, imported, in_block, mark_facts, may_begin, with_facts};
+ghost use Rattle.rvd_elf.specs.Facts.{TakesSlot, block_fact, bytes_of, changes_of, facts_of, func_facts, imported, in_block, mark_facts, may_begin, name_bytes, slot_at, slot_facts, symbol_facts, with_facts};
+ghost use Rattle.rvd_elf.specs.Symbol.{IsNamed};
 
 use crate::header::Header;
 use crate::segment::Region;
-use rvd_fact::{Addr, Bytes, Cell, Change, Key, Kind, Source, Value};
+use crate::slots::take_slot;
+use crate::symbol::Symbol;
+use rvd_fact::{Addr, Bytes, Cell, Change, Key, Kind, Source, Text, Value};
 use std::alloc::{AllocError, Global};
 use std::collections::BTreeMap;
 
@@ -101,6 +104,69 @@ fn put_mark(
     Ok(())
 }
 
+fn copy_name(alloc: Global, bytes: &[u8], symbol: &Symbol) -> Result<Text, AllocError>
+    requires { IsNamed bytes.now symbol.now }
+    ensures { IfOk result (λ name. name ≡ name_bytes bytes.now symbol.now) }
+{
+    let name = &bytes[symbol.name_at..symbol.name_at + symbol.name_len];
+    Text::of(alloc, Vec::from_slice(alloc, name)?)
+}
+
+fn put_func(
+    cells: &mut BTreeMap<Key, Cell>,
+    regions: &[Region],
+    symbol: &Symbol,
+) -> Result<(), AllocError>
+    ensures { OnOk result (cells.new.entries ≡ with_facts cells.old.entries (func_facts regions.now symbol.now)) }
+{
+    if symbol.is_function && is_code_start(regions, symbol.value) {
+        put_fact(cells, key_at(symbol.value, Kind::Func), Value::Func)?;
+    }
+    Ok(())
+}
+
+// Puts a symbol in the next slot of its address, if one is left, and its function.
+fn put_symbol(
+    alloc: Global,
+    cells: &mut BTreeMap<Key, Cell>,
+    slots: &mut BTreeMap<Addr, u8>,
+    bytes: &[u8],
+    regions: &[Region],
+    symbol: &Symbol,
+) -> Result<(), AllocError>
+    requires { IsNamed bytes.now symbol.now }
+    ensures facts { OnOk result (cells.new.entries ≡ with_facts cells.old.entries (slot_facts bytes.now regions.now (slot_at slots.old symbol.now.value) symbol.now)) }
+    ensures taken { OnOk result (TakesSlot slots.old slots.new symbol.now.value) }
+{
+    let Some(slot) = take_slot(slots, symbol.value)? else {
+        return Ok(());
+    };
+    let key = Key {
+        at: symbol.value,
+        kind: Kind::Symbol,
+        sub: slot,
+    };
+    put_fact(cells, key, Value::Symbol(copy_name(alloc, bytes, symbol)?))?;
+    put_func(cells, regions, symbol)
+}
+
+fn put_symbols(
+    alloc: Global,
+    cells: &mut BTreeMap<Key, Cell>,
+    bytes: &[u8],
+    regions: &[Region],
+    symbols: &[Symbol],
+) -> Result<(), AllocError>
+    requires { All (IsNamed bytes.now) symbols.now }
+    ensures { OnOk result (cells.new.entries ≡ with_facts cells.old.entries (symbol_facts bytes.now regions.now [] symbols.now)) }
+{
+    let mut slots = BTreeMap::new(alloc);
+    for symbol in symbols {
+        put_symbol(alloc, cells, &mut slots, bytes, regions, symbol)?;
+    }
+    Ok(())
+}
+
 // The cells in key order, as changes with nothing before.
 fn list_changes(alloc: Global, cells: BTreeMap<Key, Cell>) -> Result<Vec<Change>, AllocError>
     ensures { IfOk result (λ v. v.items ≡ changes_of cells.entries) }
@@ -116,18 +182,21 @@ fn list_changes(alloc: Global, cells: BTreeMap<Key, Cell>) -> Result<Vec<Change>
     Ok(changes)
 }
 
-/// The facts of a file with this header and this memory, in key order.
+/// The facts of a file with this header, this memory and these symbols, in key order.
 pub fn list_facts(
     alloc: Global,
     bytes: &[u8],
     header: &Header,
     regions: &[Region],
+    symbols: &[Symbol],
 ) -> Result<Vec<Change>, AllocError>
-    requires { All (IsRegion bytes.now) regions.now }
-    ensures { IfOk result (λ v. v.items ≡ changes_of (with_facts [] (facts_of bytes.now header.now regions.now))) }
+    requires regions { All (IsRegion bytes.now) regions.now }
+    requires symbols { All (IsNamed bytes.now) symbols.now }
+    ensures { IfOk result (λ v. v.items ≡ changes_of (with_facts [] (facts_of bytes.now header.now regions.now symbols.now))) }
 {
     let mut cells = BTreeMap::new(alloc);
     put_blocks(alloc, &mut cells, bytes, regions)?;
     put_mark(&mut cells, header, regions)?;
+    put_symbols(alloc, &mut cells, bytes, regions, symbols)?;
     list_changes(alloc, cells)
 }

@@ -6,7 +6,10 @@ mod fields;
 mod header;
 mod imports;
 mod refusals;
+mod section;
 mod segment;
+mod slots;
+mod symbol;
 
 pub use imports::import;
 pub use refusals::{ElfError, Part};
