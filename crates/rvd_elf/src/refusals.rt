@@ -18,43 +18,57 @@ pub enum Part {
     SectionTable,
     /// The symbol table.
     SymbolTable,
-    /// The string table of the symbol table.
+    /// The string table that the symbol table links to.
     StringTable,
 }
 
-/// Why a file isn't imported: the first test that fails.
+/// Why a file isn't imported.
 #[derive(Clone, Copy, Debug, PartialEq, Eq, Error)]
 pub enum ElfError {
-    #[error("no ELF file")]
+    /// The file doesn't begin with the magic number 7f 45 4c 46.
+    #[error("the file doesn't begin with the ELF magic number")]
     NotElf,
-    #[error("no file of 32 bits")]
+    /// `EI_CLASS` isn't `ELFCLASS32`.
+    #[error("the file class isn't ELFCLASS32")]
     NotElf32,
-    #[error("not low byte first")]
+    /// `EI_DATA` isn't `ELFDATA2LSB`.
+    #[error("the data encoding isn't ELFDATA2LSB")]
     NotLittle,
-    #[error("no executable file: type {0}")]
+    /// `e_type` isn't `ET_EXEC`; it is this number.
+    #[error("the file isn't executable: e_type is {0}")]
     NotExec(u16),
-    #[error("not for RISC-V: machine {0}")]
+    /// `e_machine` isn't `EM_RISCV`; it is this number.
+    #[error("the file isn't for RISC-V: e_machine is {0}")]
     NotRiscv(u16),
-    #[error("compressed instructions")]
+    /// `e_flags` has `EF_RISCV_RVC`.
+    #[error("the file has compressed instructions")]
     Compressed,
-    #[error("embedded registers")]
+    /// `e_flags` has `EF_RISCV_RVE`.
+    #[error("the file is for the embedded register set")]
     Embedded,
-    #[error("bad size of an entry of {0:?}: {1}")]
+    /// The entries of a part have a wrong size, this number of bytes.
+    #[error("the entries of {0:?} have a wrong size, {1} bytes")]
     BadEntrySize(Part, u32),
-    #[error("{0:?} at {1} leaves the file")]
+    /// A part that begins at this offset, in bytes, leaves the file.
+    #[error("{0:?} at offset {1} leaves the file")]
     Truncated(Part, u32),
-    #[error("bad range of segment {0}")]
+    /// The segment of this program header has more bytes in the file than in memory, or passes the
+    /// end of the address space.
+    #[error("the segment of program header {0} has a wrong range of memory")]
     BadRange(u32),
-    #[error("blocks at {0:08x} and {1:08x} overlap")]
+    /// The memory that begins at the first address reaches into that at the second.
+    #[error("segments overlap at {0:08x} and {1:08x}")]
     Overlap(Addr, Addr),
-    #[error("bad link of the symbol table: {0}")]
+    /// The symbol table links to this section, which isn't a string table.
+    #[error("the symbol table links to section {0}, which isn't a string table")]
     BadLink(u32),
-    #[error("bad name of symbol {0}")]
+    /// The symbol with this index has no name that ends in the string table.
+    #[error("the name of symbol {0} doesn't end in the string table")]
     BadName(u32),
-    #[error("too many {0:?}: {1}")]
+    /// There are more of these than the limit: so many.
+    #[error("too many of {0:?}: {1}")]
     TooMany(What, u64),
-    #[error("no file of the plain form")]
-    Unbuilt,
+    /// An allocation failed.
     #[error("out of memory")]
     OutOfMemory,
 }
