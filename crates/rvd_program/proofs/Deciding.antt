@@ -121,3 +121,11 @@ stays_where_valid T k o here valid =
       | inl block ↦ cond-true (rank k.kind == 0) _ _ block ∙ not_from_false (list_any (hangs T) T) (none_hangs_in T valid)
       | inr other ↦ cond-false (rank k.kind == 0) _ _ other ∙ not_from_false (hangs_at T k o) (none_hangs_at T valid k o here)
     ]
+
+-- the same for the answer of a function over the entries of the program after the change
+pub decides : (S T : Program) (k : Key) (o : Option Cell) (b : Bool) → IsValid S → T ≡ placed S k o → b ≡ stays_valid T k o → (b ≡ true → IsValid (placed S k o)) × (IsValid (placed S k o) → b ≡ true)
+decides S T k o b valid is answer =
+    let same : b ≡ stays_valid (placed S k o) k o = answer ∙ ap (λ (R : Program). stays_valid R k o) is in (
+      λ h. valid_from S k o valid (sym same ∙ h),
+      λ after. same ∙ stays_where_valid (placed S k o) k o (cell_at_placed S k o) after,
+    )

@@ -12,10 +12,14 @@
 #![tactic(auto)]
 
 mod change_lists;
+mod checks;
+mod fitting;
 mod kept;
 mod memory;
 mod refs;
+mod same;
 mod spans;
+mod suiting;
 mod valid_map;
 
 pub use kept::Kept;

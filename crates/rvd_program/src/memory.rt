@@ -1,5 +1,7 @@
-ghost use Rattle.std.specs.Prelude.{◌≡◌, ◌≤◌, IfOk};
-ghost use Rattle.rvd_fact.specs.Memory.{cover, block, bytes, bytes_in};
+ghost use Rattle.std.specs.Prelude.{◌≡◌, ◌≤◌, length, IfOk};
+ghost use Rattle.std.specs.Option.{option_map};
+ghost use Rattle.std.specs.Int.{from_le_bytes, w32};
+ghost use Rattle.rvd_fact.specs.Memory.{cover, block, bytes, word, bytes_in};
 
 use crate::kept::Kept;
 use crate::spans::{block_len, unit_len};
@@ -101,4 +103,48 @@ fn bytes_in(
         }
         _ => Ok(None),
     }
+}
+
+/// The word of the four initialised bytes from an address on, the lowest first.
+pub fn word(entries: &[(Key, Kept)], at: Addr) -> Option<u32>
+    ensures { result ≡ word entries.now at }
+{
+    for entry in entries {
+        let start = entry.0.at;
+        let value = &entry.1.cell().value;
+        if start <= at && at - start < block_len(value) {
+            return word_in(start, at, value);
+        }
+    }
+    None
+}
+
+// The word of four bytes from a block's bytes.
+fn word_in(start: Addr, at: Addr, value: &Value) -> Option<u32>
+    requires { start ≤ at }
+    ensures { result ≡ option_map (from_le_bytes w32) (bytes_in start at 4 value.now) }
+{
+    match value {
+        Value::Block {
+            bytes: Some(all),
+            ..
+        } => {
+            let all = all.list();
+            let from = (at - start) as usize;
+            if from + 4 <= all.len() {
+                Some(word_of(&all[from..from + 4]))
+            } else {
+                None
+            }
+        }
+        _ => None,
+    }
+}
+
+// The word of four bytes, the lowest first.
+fn word_of(four: &[u8]) -> u32
+    requires { length four.now ≡ 4 }
+    ensures { result ≡ from_le_bytes w32 four.now }
+{
+    u32::from_le_bytes([four[0], four[1], four[2], four[3]])
 }
