@@ -4,9 +4,9 @@
 use Rattle.std.proofs.Common.{◌≡◌, ℕ, zero, suc, ◌+◌, ◌^◌, ◌<◌, ◌≤◌, true, false, ◌&&◌, ◌||◌, List, [], ◌∷◌, length, get_or, Some, None, refl, sym, ap, ◌∙◌, subst, inl, inr, arith}
 use Rattle.std.specs.Prelude.{nat_le, nat_lt}
 use Rattle.std.specs.List.{AllWithin, slice_get}
-use Rattle.std.proofs.lemmas.Bool.{cases_eq, cases_lt, lt-ltb, le-ltb, lt-leb, le-leb, ltb-true, ltb-false, leb-true, leb-false, and_parts, and_cases, or_from, or_left, and_left, and_right}
+use Rattle.std.proofs.lemmas.Bool.{and_from, cases_eq, cases_lt, lt-ltb, le-ltb, lt-leb, le-leb, ltb-true, ltb-false, leb-true, leb-false, and_parts, and_cases, or_from, or_left, and_left, and_right}
 use Rattle.std.proofs.lemmas.List.{get_or_default}
-use Rattle.rvd_fact.specs.Ranges.{AreRangesFrom, AreRanges, in_range, has_address, IsLeast}
+use Rattle.rvd_fact.specs.Ranges.{are_ranges_from, AreRangesFrom, AreRanges, in_range, has_address, IsLeast}
 
 -- a later start
 pub from_lower : (low high : ℕ) (rs : List (ℕ × ℕ)) → low ≤ high → AreRangesFrom high rs → AreRangesFrom low rs
@@ -130,3 +130,9 @@ above_next i rs t h k d from s =
     let own : (get_or rs k d).0 ≤ (get_or rs k d).1 = (range_at 0 k d rs t s).1 in
     let same : get_or rs i (0, 0) ≡ get_or rs i d = get_or_default rs i (0, 0) d h in
     subst (λ (r : ℕ × ℕ). r.1 + 1 ≤ (get_or rs k d).1) (sym same) (omega arith)
+
+-- a set of ranges passes the test
+pub are_ranges_test : (low : ℕ) (rs : List (ℕ × ℕ)) → AreRangesFrom low rs → are_ranges_from low rs ≡ true
+are_ranges_test low [] t = refl
+are_ranges_test low (r ∷ rs) t =
+    and_from _ _ (le-leb low r.0 t.0) (and_from _ _ (le-leb r.0 r.1 t.1) (and_from _ _ (lt-ltb r.1 4294967296 (omega (arith, t.2))) (are_ranges_test (r.1 + 2) rs t.3)))
