@@ -11,7 +11,7 @@ use crate::steps::{Compare, Cut, Draw, Look, Meet, Number, On};
 use crate::storied::Storied;
 use crate::view::View;
 use atomic_table::{Seat, Table};
-use std::alloc::Global;
+use std::alloc::{AllocError, Global};
 use std::marker::Model;
 use std::snapshot::Snapshot;
 use std::sync::Wait;
@@ -62,7 +62,7 @@ impl<T: Storied> Turn<T> {
         let mut slots = Vec::new(alloc);
         slots.push(Some(value))?;
         let Ok((table, seat)) = Table::new(alloc, &[0, 0, 1], slots, &about) else {
-            return Err(OutOfMemory);
+            return Err(AllocError);
         };
         Ok((Turn { table }, Pass { seat }))
     }

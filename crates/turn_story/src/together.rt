@@ -7,7 +7,7 @@ use crate::story::Story;
 use crate::task::{Done, Task, work};
 use crate::writer::Writer;
 use rvd_turn::{OutOfMemory, Pass, Turn};
-use std::alloc::Global;
+use std::alloc::{AllocError, Global};
 use std::sync::Wait;
 use std::thread;
 use std::thread::Threads;
@@ -95,5 +95,5 @@ pub fn write_together<R: Threads + Wait + Sync>(
     let whole = all_whole(all.as_slice());
     meet_all(&turn, &mut first, all);
     let story = turn.close(first);
-    if whole { Ok(story) } else { Err(OutOfMemory) }
+    if whole { Ok(story) } else { Err(AllocError) }
 }
