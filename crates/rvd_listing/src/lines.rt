@@ -72,9 +72,8 @@ fn push_datum(
     }
 }
 
-// Appends what stands behind a value.
 #[tactic(auto, unfolding(crate::specs::Lines::suffix))]
-fn push_suffix(
+fn push_suffix_pieces(
     alloc: Global,
     out: &mut Vec<u8>,
     program: &Program,
@@ -100,6 +99,25 @@ fn push_suffix(
         }
         _ => Ok(()),
     }
+}
+
+// Appends what stands behind a value.
+fn push_suffix(
+    alloc: Global,
+    out: &mut Vec<u8>,
+    program: &Program,
+    at: Addr,
+    value: &Value,
+) -> Result<(), AllocError>
+    ensures ok { OnOk result (out.new.items ≡ out.old.items ++ suffix program.now at value.now) }
+    ensures err { OnErr result (out.new.items ≡ out.old.items) }
+{
+    let len = out.len();
+    let pushed = push_suffix_pieces(alloc, out, program, at, value);
+    if pushed.is_err() {
+        out.truncate(len);
+    }
+    pushed
 }
 
 fn push_line_pieces(

@@ -1,4 +1,4 @@
-ghost use Rattle.std.specs.Prelude.{◌≡◌, ◌≢◌, ◌<◌, ◌≤◌, ◌↔◌, ◌++◌, ℕ, List, None, Some, Ok, OnOk, map, string_bytes, vec_len, length};
+ghost use Rattle.std.specs.Prelude.{◌≡◌, ◌≢◌, ◌<◌, ◌≤◌, ◌↔◌, ℕ, List, None, Some, Ok, map, string_bytes, vec_len, length};
 ghost use Rattle.std.specs.Io.KnownBytes.{Appends};
 ghost use Rattle.rvd_io.specs.Causes.{Rose};
 ghost use Rattle.rvd_fact.specs.declared.cells.Change.{Change};
@@ -10,25 +10,17 @@ ghost use Rattle.rvd_top.specs.Runs.{Runs};
 ghost use Rattle.rvd_top.specs.Endings.{Ends, EndsAbove, IsDoneOrMemory, KeepsSink, Prints};
 
 use crate::endings::Ending;
-use crate::texts::push_block_lines;
+use crate::texts::push_text;
 use crate::words::{Print, parse};
 use rvd_elf::import;
-use rvd_fact::{Change, What};
+use rvd_fact::What;
 use rvd_io::{Cabinet, FetchError, Gate, PutError, Sink, put_all};
-use std::alloc::{AllocError, Global};
+use std::alloc::Global;
 use std::sync::Wait;
 use std::thread::Threads;
 
 /// The most bytes of an ELF file, a script or an event file.
 pub const MAX_FILE: u64 = 33_554_432;
-
-fn push_text(print: Print, changes: &[Change], text: &mut Vec<u8>) -> Result<(), AllocError>
-    ensures { OnOk result (text.new.items ≡ text.old.items ++ text_of print changes.now) }
-{
-    match print {
-        Print::Blocks => push_block_lines(text, changes),
-    }
-}
 
 // Imports the bytes of a file and puts the text of its facts.
 fn print_file<K: Sink>(alloc: Global, print: Print, bytes: &[u8], out: &mut K) -> Ending
@@ -42,7 +34,7 @@ fn print_file<K: Sink>(alloc: Global, print: Print, bytes: &[u8], out: &mut K) -
         Err(refusal) => return Ending::of_refusal(refusal),
     };
     let mut text = Vec::new(alloc);
-    if push_text(print, &changes, &mut text).is_err() {
+    if push_text(alloc, print, &changes, &mut text).is_err() {
         return Ending::Memory;
     }
     match put_all(out, &text) {

@@ -7,6 +7,8 @@ ghost use Rattle.rvd_top.specs.Words.{begins_with_dash, command_of, print_named}
 pub enum Print {
     /// The lines of its memory blocks.
     Blocks,
+    /// The listing of its facts.
+    Listing,
 }
 
 fn is_dashed(word: &str) -> bool
@@ -21,6 +23,7 @@ fn print_of(word: &str) -> Option<Print>
 {
     match word {
         "show" => Some(Print::Blocks),
+        "list" => Some(Print::Listing),
         _ => None,
     }
 }
