@@ -26,7 +26,7 @@ st_type e = e.st_info % 16
 
 -- of the type STT_NOTYPE, STT_OBJECT or STT_FUNC, and neither undefined (SHN_UNDEF) nor common (SHN_COMMON)
 abbrev pub is_defined : SymbolEntry → Bool
-is_defined e = nat_le (st_type e) 2 && not (e.st_shndx == 0) && not (e.st_shndx == 65522)
+is_defined e = nat_le (st_type e) 2 && not (e.st_shndx == 0) && not (e.st_shndx == 0xfff2)
 
 -- a mapping symbol: local (STB_LOCAL), of the type STT_NOTYPE, and its name begins with '$'
 abbrev pub is_mapping : SymbolEntry → ℕ → Bool
