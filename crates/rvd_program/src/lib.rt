@@ -1,7 +1,8 @@
 //! The program that is disassembled: a valid map from keys to cells.
 //!
-//! * [`Program`] is the map. It is made by `empty` and `copy`, read by `cell` and `next_cell`, and changed by
-//!   `apply` and `revert`.
+//! * [`Program`] is the map. It is made by `empty` and `copy`; its cells are read by `cell` and `next_cell`, its memory
+//!   and units by `block`, `bytes` and `cover`, and its references by `has_ref_to` and `refs_from`. `fits` tells whether
+//!   changes may be applied, `apply` applies them, and `revert` undoes them.
 //!
 //! A program is valid at every moment. The cells stand in a table in the order of their keys, so that a cell is found
 //! in a time that grows as the logarithm of their number, and a program is built from facts in the order of their keys

@@ -1,7 +1,7 @@
-ghost use Rattle.std.specs.Prelude.{◌≡◌, ◌≤◌, length, IfOk};
-ghost use Rattle.std.specs.Option.{option_map};
+ghost use Rattle.std.specs.Prelude.{◌≡◌, ◌≤◌, length, IfOk, IfSome, find as first_where};
+ghost use Rattle.std.specs.Option.{option_map, option_copied};
 ghost use Rattle.std.specs.Int.{from_le_bytes, w32};
-ghost use Rattle.rvd_fact.specs.Memory.{cover, block, bytes, word, bytes_in};
+ghost use Rattle.rvd_fact.specs.Memory.{covers, surrounds, cover, block, bytes, word, bytes_in};
 
 use crate::kept::Kept;
 use crate::spans::{block_len, unit_len};
@@ -14,14 +14,20 @@ impl Program {
     pub fn cover(&self, at: Addr) -> Option<Addr>
         ensures { result ≡ cover self.now at }
     {
-        first_cover(self.entries(), at)
+        match covering(self.entries(), at) {
+            None => None,
+            Some(unit) => Some(unit.0.at),
+        }
     }
 
     /// The start of the block around an address, or None where there is none. It takes no memory.
     pub fn block(&self, at: Addr) -> Option<Addr>
         ensures { result ≡ block self.now at }
     {
-        first_block(self.entries(), at)
+        match surrounding(self.entries(), at) {
+            None => None,
+            Some(block) => Some(block.0.at),
+        }
     }
 
     /// The `len` bytes from an address on, or None where `len` is 0 or they don't lie in one initialised block. Only
@@ -29,50 +35,48 @@ impl Program {
     pub fn bytes(&self, alloc: Global, at: Addr, len: u16) -> Result<Option<Bytes>, AllocError>
         ensures { IfOk result (λ answer. answer ≡ bytes self.now at len) }
     {
-        range_bytes(alloc, self.entries(), at, len)
+        match surrounding(self.entries(), at) {
+            None => Ok(None),
+            Some(block) => bytes_in(alloc, block.0.at, at, len, &block.1.cell().value),
+        }
     }
 }
 
-fn first_cover(entries: &[(Key, Kept)], at: Addr) -> Option<Addr>
-    ensures { result ≡ cover entries.now at }
+/// The word of the four initialised bytes from an address on, the lowest first.
+pub fn word(entries: &[(Key, Kept)], at: Addr) -> Option<u32>
+    ensures { result ≡ word entries.now at }
+{
+    match surrounding(entries, at) {
+        None => None,
+        Some(block) => word_in(block.0.at, at, &block.1.cell().value),
+    }
+}
+
+// The unit that has the byte at an address.
+fn covering(entries: &[(Key, Kept)], at: Addr) -> Option<&(Key, Kept)>
+    ensures { option_copied result ≡ first_where (covers at) entries.now }
 {
     for entry in entries {
         let start = entry.0.at;
         if start <= at && at - start < unit_len(&entry.1.cell().value) {
-            return Some(start);
+            return Some(entry);
         }
     }
     None
 }
 
-fn first_block(entries: &[(Key, Kept)], at: Addr) -> Option<Addr>
-    ensures { result ≡ block entries.now at }
+// The block around an address.
+fn surrounding(entries: &[(Key, Kept)], at: Addr) -> Option<&(Key, Kept)>
+    ensures entry { option_copied result ≡ first_where (surrounds at) entries.now }
+    ensures start { IfSome result (λ entry. entry.now.0.at ≤ at) }
 {
     for entry in entries {
         let start = entry.0.at;
         if start <= at && at - start < block_len(&entry.1.cell().value) {
-            return Some(start);
+            return Some(entry);
         }
     }
     None
-}
-
-fn range_bytes(
-    alloc: Global,
-    entries: &[(Key, Kept)],
-    at: Addr,
-    len: u16,
-) -> Result<Option<Bytes>, AllocError>
-    ensures { IfOk result (λ answer. answer ≡ bytes entries.now at len) }
-{
-    for entry in entries {
-        let start = entry.0.at;
-        let value = &entry.1.cell().value;
-        if start <= at && at - start < block_len(value) {
-            return bytes_in(alloc, start, at, len, value);
-        }
-    }
-    Ok(None)
 }
 
 // The bytes of a range from a block's bytes.
@@ -103,20 +107,6 @@ fn bytes_in(
         }
         _ => Ok(None),
     }
-}
-
-/// The word of the four initialised bytes from an address on, the lowest first.
-pub fn word(entries: &[(Key, Kept)], at: Addr) -> Option<u32>
-    ensures { result ≡ word entries.now at }
-{
-    for entry in entries {
-        let start = entry.0.at;
-        let value = &entry.1.cell().value;
-        if start <= at && at - start < block_len(value) {
-            return word_in(start, at, value);
-        }
-    }
-    None
 }
 
 // The word of four bytes from a block's bytes.
