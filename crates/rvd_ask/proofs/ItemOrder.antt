@@ -1,7 +1,7 @@
 -- The order of items is total, tells all items apart, and is the derived one. Use `cases_item` to decide
 -- whether two items are one, `items_exact` and `same_item-true` to get the equation, `items_total` where std
 -- asks for a total order, and `derived_is` where code over `Ord` speaks of the derived order.
-use Rattle.std.proofs.Common.{◌≡◌, ℕ, ◌-◌, ◌/◌, true, false, List, [], ◌∷◌, get_or, refl, sym, ap, ◌∙◌, inl, inr, ◌⊎◌, rules}
+use Rattle.std.proofs.Common.{◌≡◌, ℕ, ◌-◌, ◌/◌, true, false, [], ◌∷◌, get_or, refl, sym, ap, ◌∙◌, inl, inr, ◌⊎◌, rules}
 use Rattle.std.proofs.lemmas.Cmp.{on_total, then_total, nat_cmp_total, tied_itself}
 use Rattle.std.proofs.lemmas.Map.Lookups.{exact_pairs, exact_unsigned}
 use Rattle.std.specs.Cmp.{IsTotalOrder, Equal-is}

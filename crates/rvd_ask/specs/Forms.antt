@@ -1,6 +1,6 @@
 -- Which answers have the form of an ask. Use `has_form` as the promise of whatever pairs an ask with an
 -- answer: a list of reads, and a verdict.
-use Rattle.std.specs.Prelude.{ℕ, Bool, true, false, ◌&&◌, nat_lt, ◌==◌, length, Some, None}
+use Rattle.std.specs.Prelude.{Bool, true, false, ◌&&◌, nat_lt, ◌==◌, length, Some, None}
 use Rattle.rvd_ask.specs.declared.asks.Ask.{Ask}
 use Rattle.rvd_ask.specs.declared.asks.Ask.TheVariants as ask
 use Rattle.rvd_ask.specs.declared.answers.Answer.{Answer}

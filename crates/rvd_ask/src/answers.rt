@@ -116,6 +116,8 @@ impl Answer {
 mod tests {
     use super::*;
     use crate::{Analyzer, Item, Items};
+    use std::cmp::Ordering;
+    use std::test::Fail;
 
     fn crosses_threads<T: Send + Sync>() {}
 
@@ -127,5 +129,28 @@ mod tests {
         crosses_threads::<Ask>();
         crosses_threads::<RefList>();
         crosses_threads::<Answer>();
+    }
+
+    #[test]
+    fn lists_and_answers_are_copied_with_ample_memory(rt: HostRuntime) -> Result<(), Fail> {
+        let body = Item {
+            analyzer: Analyzer::Body,
+            at: 0x10060,
+        };
+        let text = Item {
+            analyzer: Analyzer::Strings,
+            at: 0x10054,
+        };
+        assert_eq!(rt; body.order(&text), Ordering::Less);
+        let items = Items::of(rt.alloc(), vec![in rt.alloc(); body, text]?)?;
+        assert_eq!(rt; items.copy()?.list(), [body, text].as_slice());
+
+        let call = (0, RefClass::Call, 0x10060);
+        let refs = RefList::of(rt.alloc(), vec![in rt.alloc(); call]?)?;
+        assert_eq!(rt; refs.copy()?.list(), [call].as_slice());
+        let answer = Answer::Refs(refs).copy()?;
+        assert!(rt; answer.has_form(&Ask::From(0x10058)));
+        assert!(rt; !answer.has_form(&Ask::Cover(0x10058)));
+        Ok(())
     }
 }

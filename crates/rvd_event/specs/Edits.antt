@@ -38,7 +38,7 @@ is_releasable k = true
 
 -- whether an edit's parts are in their ranges
 abbrev pub is_edit : Edit → Bool
-is_edit (Block at len perm) = is_address at && (nat_lt 0 len && is_address len)
+is_edit (Block at len perm) = is_address at && (nat_lt 0 len && nat_lt len 4294967296)
 is_edit (Mark at) = is_address at
 is_edit (Func at) = is_address at
 is_edit (Body at ranges) = is_address at && has_body_ranges ranges

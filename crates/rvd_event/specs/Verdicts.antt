@@ -2,7 +2,7 @@
 use Rattle.std.specs.Prelude.{Bool, true, ◌&&◌}
 use Rattle.rvd_ask.specs.Forms.{has_form}
 use Rattle.rvd_event.specs.declared.verdicts.Verdict.{Verdict}
-use Rattle.rvd_event.specs.declared.verdicts.Verdict.TheVariants.{Joined, Nothing, Off, Stale, Foreign}
+use Rattle.rvd_event.specs.declared.verdicts.Verdict.TheVariants.{Stale, Foreign}
 
 -- whether each answer of a verdict has the form of its ask
 abbrev pub has_forms : Verdict → Bool

@@ -1,9 +1,15 @@
 ghost use Rattle.std.specs.Prelude.{◌≡◌, IfOk};
-ghost use Rattle.rvd_fact.specs.Valid.{top_sub};
+ghost use Rattle.rvd_fact.specs.Valid.{is_address, is_text, top_sub};
 ghost use Rattle.rvd_event.specs.Edits.{is_edit, has_body_ranges, is_name, is_datum, is_removable, is_releasable};
 
 use rvd_fact::{Addr, Form, Key, Kind, Perm, RangeSet, RefClass, Text};
 use std::alloc::AllocError;
+
+/// How many addresses there are.
+const ADDRESSES: u64 = 0x1_0000_0000;
+
+/// The most bytes of a text.
+const MAX_TEXT: usize = 1000;
 
 /// The most ranges of a body that an analyst sets.
 const MAX_BODY_RANGES: usize = 64;
@@ -98,17 +104,40 @@ impl Edit {
         ensures { result ≡ is_edit self.now }
     {
         match self {
-            Edit::Block(_, len, _) => *len > 0,
-            Edit::Body(_, ranges) => has_body_ranges(ranges),
-            Edit::Label(_, name) => is_name(name),
-            Edit::Comment(_, kind, _) => *kind <= top_sub(Kind::Comment),
-            Edit::Bookmark(_, kind, _) => *kind <= top_sub(Kind::Bookmark),
-            Edit::Datum(_, form) => is_datum(*form),
-            Edit::Remove(kind, _, sub) => is_removable(*kind) && *sub <= top_sub(*kind),
-            Edit::Release(kind, _, sub) => is_releasable(*kind) && *sub <= top_sub(*kind),
-            _ => true,
+            Edit::Block(at, len, _) => is_address(*at) && *len > 0,
+            Edit::Body(at, ranges) => is_address(*at) && has_body_ranges(ranges),
+            Edit::Label(at, name) => is_address(*at) && is_name(name),
+            Edit::Ref(from, to, _) => is_address(*from) && is_address(*to),
+            Edit::Comment(at, sub, text) => {
+                is_address(*at) && *sub <= top_sub(Kind::Comment) && is_text(text.list())
+            }
+            Edit::Bookmark(at, sub, text) => {
+                is_address(*at) && *sub <= top_sub(Kind::Bookmark) && is_text(text.list())
+            }
+            Edit::Datum(at, form) => is_address(*at) && is_datum(*form),
+            Edit::Remove(kind, at, sub) => {
+                is_address(*at) && is_removable(*kind) && *sub <= top_sub(*kind)
+            }
+            Edit::Release(kind, at, sub) => {
+                is_address(*at) && is_releasable(*kind) && *sub <= top_sub(*kind)
+            }
+            Edit::Mark(at) | Edit::Func(at) | Edit::Code(at) | Edit::Clear(at) => is_address(*at),
         }
     }
+}
+
+/// Whether a number is an address: every number of the type is.
+fn is_address(at: Addr) -> bool
+    ensures { result ≡ is_address at }
+{
+    u64::from(at) < ADDRESSES
+}
+
+/// Whether bytes are a text: they are no more than a text may have.
+fn is_text(bytes: &[u8]) -> bool
+    ensures { result ≡ is_text bytes.now }
+{
+    bytes.len() <= MAX_TEXT
 }
 
 /// Whether a set has as many ranges as a body may have that an analyst sets.
@@ -123,7 +152,7 @@ fn has_body_ranges(ranges: &RangeSet) -> bool
 fn is_name(name: &Text) -> bool
     ensures { result ≡ is_name name.now }
 {
-    !name.list().is_empty()
+    is_text(name.list()) && !name.list().is_empty()
 }
 
 /// Whether an analyst may make a data unit of a form.

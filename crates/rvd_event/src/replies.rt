@@ -83,3 +83,68 @@ impl Reply {
         }
     }
 }
+
+#[cfg(test)]
+mod tests {
+    use super::*;
+    use crate::{Edit, Event, Names, Query, Step, Verdict};
+    use rvd_ask::{Answer, Ask};
+    use rvd_fact::{Form, Kind, Text};
+    use std::test::Fail;
+
+    fn crosses_threads<T: Send + Sync>() {}
+
+    #[test]
+    fn events_and_replies_may_cross_threads() {
+        crosses_threads::<Edit>();
+        crosses_threads::<EditRefusal>();
+        crosses_threads::<Event>();
+        crosses_threads::<Names>();
+        crosses_threads::<Query>();
+        crosses_threads::<Reply>();
+        crosses_threads::<Refusal>();
+        crosses_threads::<Step>();
+        crosses_threads::<Verdict>();
+        crosses_threads::<VerdictList>();
+    }
+
+    #[test]
+    fn parts_of_edits_have_their_ranges(rt: HostRuntime) {
+        for (edit, is_legal) in [
+            (Edit::Datum(0x12000, Form::Str(0)), false),
+            (Edit::Datum(0x12000, Form::Str(256)), true),
+            (Edit::Datum(0x12000, Form::Str(257)), false),
+            (Edit::Remove(Kind::Unit, 0x12000, 0), false),
+            (Edit::Release(Kind::Unit, 0x12000, 0), true),
+            (Edit::Remove(Kind::Ref, 0x12000, 63), true),
+            (Edit::Remove(Kind::Ref, 0x12000, 64), false),
+        ] {
+            assert_eq!(rt; edit.is_legal(), is_legal, "of {edit:?}");
+        }
+    }
+
+    #[test]
+    fn events_and_replies_are_copied_with_ample_memory(rt: HostRuntime) -> Result<(), Fail> {
+        let text = Text::of(rt.alloc(), vec![in rt.alloc(); b'h', b'i']?)?;
+        let event = Event::Edit(Edit::Comment(0x10054, 2, text));
+        let copy = event.copy()?;
+        assert_eq!(rt;
+            format!(in rt.alloc(); "{copy:?}")?.as_str(),
+            format!(in rt.alloc(); "{event:?}")?.as_str()
+        );
+
+        let verdict = Verdict::Stale {
+            ask: Ask::Cover(0x10054),
+            was: Answer::At(None),
+            now: Answer::At(Some(0x10054)),
+        };
+        let verdicts = VerdictList::of(rt.alloc(), vec![in rt.alloc(); verdict]?)?;
+        let reply = Reply::Verdicts(verdicts);
+        let copy = reply.copy()?;
+        assert_eq!(rt;
+            format!(in rt.alloc(); "{copy:?}")?.as_str(),
+            format!(in rt.alloc(); "{reply:?}")?.as_str()
+        );
+        Ok(())
+    }
+}

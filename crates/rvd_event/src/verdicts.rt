@@ -15,18 +15,10 @@ pub enum Verdict {
     /// Its analyzer is disabled.
     Off,
     /// The program has changed under it: an ask, its answer when the job was taken, and now.
-    Stale {
-        ask: Ask,
-        was: Answer,
-        now: Answer,
-    },
+    Stale { ask: Ask, was: Answer, now: Answer },
     /// The proposal wasn't made of the job's program: an ask, the proposal's answer, and the
     /// job's.
-    Foreign {
-        ask: Ask,
-        said: Answer,
-        was: Answer,
-    },
+    Foreign { ask: Ask, said: Answer, was: Answer },
 }
 
 impl Verdict {
