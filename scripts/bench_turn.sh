@@ -1,12 +1,13 @@
 #!/bin/sh
-# Turns a second of the turn and of std's Mutex, with an empty critical section. Run it after `rt ci bench_turn`.
+# Turns a second of the turn and of std's Mutex, with an empty critical section.
+# It times the proved program, which `rt run -- both 1 1` in crates/bench_turn builds.
 # usage: scripts/bench_turn.sh [ROUNDS]      ROUNDS: how often each thread takes the lock (default 100000)
 set -eu
 cd "$(dirname "$0")/.."
 program=crates/bench_turn/out/bench_turn
 rounds=${1:-100000}
 if [ ! -x "$program" ]; then
-    echo "bench_turn.sh: no $program: run 'rt ci bench_turn' or, in crates/bench_turn, 'rt run -- both 1 1' first" >&2
+    echo "bench_turn.sh: no $program: build it first, by 'rt run -- both 1 1' in crates/bench_turn" >&2
     exit 1
 fi
 printf '%-8s %8s %14s\n' lock threads turns/second
