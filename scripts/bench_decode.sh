@@ -1,22 +1,21 @@
 #!/usr/bin/env bash
 # Prints how many words a second rvd_decode's decode reads on one core, beside the rates of llvm-objdump and GNU objdump
-# on the same words in the same run: the text of the compiled sample, over and over. It needs clang and python3; a
-# disassembler that is missing is left out. The disassemblers' time has their printing in it.
+# on the same words in the same run: the text of the compiled sample, over and over. It needs clang, llvm-objcopy and
+# python3; a disassembler that is missing is left out. The disassemblers' time has their printing in it.
 set -eu
 cd "$(dirname "$0")/.."
 
 words=$((${1:-1} * 1024 * 1024))
 rounds=${2:-100}
-if ! command -v clang >/dev/null || ! command -v python3 >/dev/null; then
-    echo "bench_decode: skipped, for want of clang or python3"
+if ! command -v clang >/dev/null || ! command -v llvm-objcopy >/dev/null || ! command -v python3 >/dev/null; then
+    echo "bench_decode: skipped, for want of clang, llvm-objcopy or python3"
     exit 0
 fi
 
 work=$(mktemp -d)
 trap 'rm -rf "$work"' EXIT
+scripts/compile_sample.sh "$work"
 for level in 0 1 2 s; do
-    clang --target=riscv32 -march=rv32i -mabi=ilp32 -mno-relax -nostdlib -ffreestanding "-O$level" \
-        -c scripts/rv32i_sample.c -o "$work/$level.o"
     llvm-objcopy -O binary --only-section=.text "$work/$level.o" "$work/$level.bin"
 done
 python3 - "$work" "$words" <<'EOF'

@@ -18,10 +18,7 @@ fi
 
 work=$(mktemp -d)
 trap 'rm -rf "$work"' EXIT
-for level in 0 1 2 s; do
-    clang --target=riscv32 -march=rv32i -mabi=ilp32 -mno-relax -nostdlib -ffreestanding "-O$level" \
-        -c scripts/rv32i_sample.c -o "$work/$level.o"
-done
+scripts/compile_sample.sh "$work"
 [ -x crates/decode_lines/out/decode_lines ] || (cd crates/decode_lines && rt run <stdin >/dev/null)
 
 for tool in $llvm $gnu; do

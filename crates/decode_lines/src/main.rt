@@ -11,7 +11,7 @@ use std::io::{self, BufRead, BufReader, BufWriter, Write};
 fn parsed(line: &str) -> Result<(u32, u32)> {
     let (address, word) = line
         .split_once(' ')
-        .with_context(|| format_args!("no address and word: {line:?}"))?;
+        .context("a line has an address, a space and a word")?;
     let address = u32::from_str_radix(address, 16).context("the address")?;
     let word = u32::from_str_radix(word, 16).context("the word")?;
     Ok((address, word))

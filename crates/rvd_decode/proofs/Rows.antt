@@ -1,17 +1,26 @@
--- No word matches two rows. The checker computes that each two rows ask for different bits where both look; so the operation
--- of a word is the one whose row it matches (`operation-matched`), and there is none where it matches no row
+-- No word matches two rows (`one_row`): the checker computes that each two rows ask for different bits where both look. So the
+-- operation of a word is the one whose row it matches (`operation-matched`), and there is none where it matches no row
 -- (`operation-unmatched`).
-use Rattle.std.proofs.Common.{◌≡◌, ℕ, ◌<◌, Bool, true, false, not, cond, Some, None, List, [], ◌∷◌, length, get_or, zero, suc, refl, sym, ap, ◌∙◌, bit_and, arith, lit<}
-use Rattle.std.specs.Prelude.{find}
+use Rattle.std.proofs.Common.{◌&&◌, unwrap_or, ◌≡◌, ℕ, ◌<◌, Bool, true, false, not, cond, Some, None, List, [], ◌∷◌, length, get_or, zero, suc, refl, sym, ap, ◌∙◌, bit_and, arith, lit<}
+use Rattle.std.specs.Prelude.{find, ◌==◌}
 use Rattle.std.specs.List.{list_all}
 use Rattle.std.proofs.lemmas.Bool.{and_parts, eqb-true, eq-eqb, false≢true}
 use Rattle.std.proofs.lemmas.Nat.{and_assoc, and_comm}
 use Rattle.rvd_decode.specs.declared.insn.Op.{Op}
 use Rattle.rvd_decode.specs.declared.insn.Op.TheVariants.{Lui, Auipc, Jal, Jalr, Beq, Bne, Blt, Bge, Bltu, Bgeu, Lb, Lh, Lw, Lbu, Lhu, Sb, Sh, Sw, Addi, Slti, Sltiu, Xori, Ori, Andi, Slli, Srli, Srai, Add, Sub, Sll, Slt, Sltu, Xor, Srl, Sra, Or, And, Fence, Ecall, Ebreak}
-use Rattle.rvd_decode.specs.Table.{row_of, ops, matches, operation, all_differ, differ}
+use Rattle.rvd_decode.specs.Table.{row_of, ops, matches, operation, NoTwoRows}
+
+-- two rows ask for different bits somewhere that both look at
+abbrev differ : Op → Op → Bool
+differ a b = not (bit_and (row_of a).matching (row_of b).mask == bit_and (row_of b).matching (row_of a).mask)
+
+-- each row differs from those after it
+abbrev all_differ : List Op → Bool
+all_differ [] = true
+all_differ (a ∷ rest) = list_all (differ a) rest && all_differ rest
 
 -- the table's rows differ
-pub rows_differ : all_differ ops ≡ true
+rows_differ : all_differ ops ≡ true
 rows_differ = refl
 
 -- two rows that a word matches don't differ
@@ -100,6 +109,10 @@ row_is Ebreak = nth 39 (lit< tt)
 pub operation-matched : (w : ℕ) (op : Op) → matches w op ≡ true → operation w ≡ Some op
 unfolding operation
 operation-matched w op m = found_row w op ops rows_differ (row_is op) m
+
+-- no word matches two rows
+pub one_row : NoTwoRows
+one_row w a b p q = ap (λ o. unwrap_or o a) (sym (operation-matched w a p) ∙ operation-matched w b q)
 
 -- where none of a list passes, none is found
 none_found : (p : Op → Bool) (rs : List Op) → ((r : Op) → p r ≡ true → ⊥) → find p rs ≡ None

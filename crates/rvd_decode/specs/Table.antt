@@ -1,8 +1,7 @@
 -- The instructions of RV32I, as the table of the manual: for each the bits that its words have, and its format.
 -- RISC-V unprivileged ISA 2.1, chapter 24, "RV32I Base Instruction Set".
-use Rattle.std.specs.Prelude.{ℕ, Bool, true, not, ◌&&◌, ◌==◌, List, [], ◌∷◌, Option, find, if◌then◌else◌, bit_and}
+use Rattle.std.specs.Prelude.{◌≡◌, ℕ, Bool, true, ◌==◌, List, [], ◌∷◌, Option, find, if◌then◌else◌, bit_and}
 use Rattle.std.specs.Option.{option_map}
-use Rattle.std.specs.List.{list_all}
 use Rattle.rvd_decode.specs.declared.insn.Op.{Op}
 use Rattle.rvd_decode.specs.declared.insn.Op.TheVariants.{Lui, Auipc, Jal, Jalr, Beq, Bne, Blt, Bge, Bltu, Bgeu, Lb, Lh, Lw, Lbu, Lhu, Sb, Sh, Sw, Addi, Slti, Sltiu, Xori, Ori, Andi, Slli, Srli, Srai, Add, Sub, Sll, Slt, Sltu, Xor, Srl, Sra, Or, And, Fence, Ecall, Ebreak}
 use Rattle.rvd_decode.specs.declared.table.Format.{Format}
@@ -100,11 +99,6 @@ instruction w = option_map (read_as w) (operation w)
 abbrev pub IsInstruction : Instruction → Type 0
 IsInstruction i = IsOfFormat (row_of i.op).format i
 
--- two rows ask for different bits somewhere that both look at
-abbrev pub differ : Op → Op → Bool
-differ a b = not (bit_and (row_of a).matching (row_of b).mask == bit_and (row_of b).matching (row_of a).mask)
-
--- each row differs from those after it
-abbrev pub all_differ : List Op → Bool
-all_differ [] = true
-all_differ (a ∷ rest) = list_all (differ a) rest && all_differ rest
+-- no word matches two rows
+abbrev pub NoTwoRows : Type 0
+NoTwoRows = (w : ℕ) (a b : Op) → matches w a ≡ true → matches w b ≡ true → a ≡ b

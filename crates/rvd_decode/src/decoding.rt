@@ -1,5 +1,5 @@
-ghost use Rattle.std.specs.Prelude.{◌≡◌, ◌<◌, if◌then◌else◌};
-ghost use Rattle.rvd_decode.specs.Table.{read_as, instruction, field};
+ghost use Rattle.std.specs.Prelude.{◌≡◌, ◌<◌, IfSome};
+ghost use Rattle.rvd_decode.specs.Table.{read_as, instruction, field, IsInstruction};
 
 use crate::fields::{bits, immediate};
 use crate::insn::{Insn, Op};
@@ -16,7 +16,8 @@ fn register(present: bool, number: u32) -> u8
 
 /// The instruction of an operation with the fields of a word.
 pub fn read_as(word: u32, op: Op) -> Insn
-    ensures { result ≡ read_as word op }
+    ensures value { result ≡ read_as word op }
+    ensures in_format { IsInstruction result }
 {
     let format = row_of(op).format;
     Insn {
@@ -28,12 +29,13 @@ pub fn read_as(word: u32, op: Op) -> Insn
     }
 }
 
-/// The instruction of a word, or None where the word is none of RV32I.
+/// The instruction of a word, or None exactly where the word matches no row of the table.
 pub fn decode(word: u32) -> Option<Insn>
-    ensures { result ≡ instruction word }
+    ensures value { result ≡ instruction word }
+
+    // Each operand is in the range of the instruction's format.
+    ensures in_format { IfSome result IsInstruction }
 {
-    match operation(word) {
-        Some(op) => Some(read_as(word, op)),
-        None => None,
-    }
+    let op = operation(word)?;
+    Some(read_as(word, op))
 }

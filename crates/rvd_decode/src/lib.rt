@@ -5,7 +5,8 @@
 //! - `text` appends an instruction in assembly notation.
 //! - `is_call`, `is_jump` and `falls_through` tell of a word where control goes after it, and
 //!   `Insn::target` gives the address that JAL or a branch leads to.
-//! - `plain::decode` decodes by going through the table's rows.
+//! - `plain::decode` decodes by going through the table's rows, and `no_two_rows` is the law that
+//!   a word matches one of them at the most.
 //!
 //! An `Insn` is a row's name with operands that are in the ranges of the row's format: its type
 //! keeps that, so that each `Insn` has a word, which is read as that `Insn`.
@@ -34,3 +35,4 @@ pub use flow::{falls_through, is_call, is_jump};
 pub use insn::{Insn, Op};
 pub use printing::text;
 pub use std::alloc::AllocError as OutOfMemory;
+pub use table::no_two_rows;

@@ -1,6 +1,6 @@
 ghost use Rattle.std.specs.Prelude.{◌≡◌};
 ghost use Rattle.rvd_decode.specs.Formats.{has_rd, has_rs1, has_rs2};
-ghost use Rattle.rvd_decode.specs.Table.{row_of, operation};
+ghost use Rattle.rvd_decode.specs.Table.{row_of, operation, NoTwoRows};
 ghost use Rattle.rvd_decode.specs.Text.{mnemonic};
 
 use crate::insn::Op;
@@ -130,6 +130,11 @@ pub fn row_of(op: Op) -> Row
     static ROWS: [Row; 40] = table!(rows);
     ROWS[op as usize]
 }
+
+/// No word matches two rows of the table: a law, and no work.
+pub fn no_two_rows()
+    ensures { NoTwoRows }
+{}
 
 /// The mnemonic of an instruction.
 pub fn mnemonic(op: Op) -> &'static str
