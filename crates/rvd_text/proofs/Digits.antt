@@ -20,6 +20,7 @@ value-digit d l = grind (arith, nat_tests)
 not_x : (d : ℕ) → d < 16 → (120 == digit_char d) ≡ false
 not_x d l = grind (arith, nat_tests)
 
+-- the same of a list of digits
 all_digits : (ds : List ℕ) → AllByRecursion (λ d. d < 16) ds → list_all is_ascii_hexdigit (map digit_char ds) ≡ true
 all_digits [] h = refl
 all_digits (d ∷ ds) h = λ i. is_digit d h.0 i && all_digits ds h.1 i
@@ -32,12 +33,14 @@ all_values (d ∷ ds) h = λ i. value-digit d h.0 i ∷ all_values ds h.1 i
 abbrev eight : ℕ → List ℕ
 eight n = n / 0x1000_0000 % 16 ∷ n / 0x100_0000 % 16 ∷ n / 0x10_0000 % 16 ∷ n / 0x1_0000 % 16 ∷ n / 0x1000 % 16 ∷ n / 0x100 % 16 ∷ n / 0x10 % 16 ∷ n % 16 ∷ []
 
+-- each of them is below 16, and they make up the number
 all_small : (n : ℕ) → AllByRecursion (λ d. d < 16) (eight n)
 all_small n = (omega arith, (omega arith, (omega arith, (omega arith, (omega arith, (omega arith, (omega arith, (omega arith, tt))))))))
 
 number_from-eight : (n : ℕ) → n < 2 ^ 32 → number_from_digits 16 (eight n) ≡ n
 number_from-eight n l = omega arith
 
+-- eight digits have no prefix
 no_prefix : (a b : ℕ) (ds : List ℕ) → b < 16 → without_prefix (digit_char a ∷ digit_char b ∷ ds) ≡ digit_char a ∷ digit_char b ∷ ds
 no_prefix a b ds l =
     elim (48 == digit_char a) as (λ q. cond (q && ((120 == digit_char b) && true)) ds (digit_char a ∷ digit_char b ∷ ds) ≡ digit_char a ∷ digit_char b ∷ ds) [

@@ -12,12 +12,14 @@ use Rattle.rvd_text.specs.declared.places.Place.{Place}
 use Rattle.rvd_text.specs.declared.places.Place.TheVariants.{Inside, Escaped, High, Low, Done}
 
 -- the text that a step leads to
-abbrev pub goes : List ℕ → Option (Place × Option ℕ) → Option (List ℕ)
+abbrev goes : List ℕ → Option (Place × Option ℕ) → Option (List ℕ)
 goes cs = option_and_then (λ (s : Place × Option ℕ). option_map (λ t. option_to_list s.1 ++ t) (text_from s.0 cs))
 
+-- a text with a byte in front, where there is one
 abbrev with_byte : ℕ → Option (List ℕ) → Option (List ℕ)
 with_byte b = option_map (λ bs. b ∷ bs)
 
+-- nothing in front of a text changes it
 map_nothing : (o : Option (List ℕ)) → option_map (λ t. [] ++ t) o ≡ o
 map_nothing None = refl
 map_nothing (Some t) = refl
@@ -57,6 +59,7 @@ record Sound (cs : List ℕ) : Type 0 where
   high : (t : List ℕ) → text_from High cs ≡ Some t → Parts (92 ∷ 120 ∷ cs) t
   low : (d h : ℕ) → low_hex d ≡ Some h → (t : List ℕ) → text_from (Low h) cs ≡ Some t → Parts (92 ∷ 120 ∷ d ∷ cs) t
 
+-- one more byte in front of what each place says
 inside_more : (c : ℕ) (cs : List ℕ) → Sound cs → (t : List ℕ) → text_from Inside (c ∷ cs) ≡ Some t → Parts (c ∷ cs) t
 inside_more c cs rest t e =
     elim (c == 34) as (λ q. (c == 34) ≡ q → goes cs (cond q (Some (Done, None)) (cond (c == 92) (Some (Escaped, None)) (cond (is_plain c) (Some (Inside, Some c)) None))) ≡ Some t → Parts (c ∷ cs) t) [
@@ -94,10 +97,12 @@ low_more c cs rest d a is t e =
       | Some l ↦ λ h f. emit (92 ∷ 120 ∷ d ∷ c ∷ []) (a * 16 + l) cs t (λ i. option_and_then (λ x. option_map (λ y. x * 16 + y) (h i)) (is i)) f rest.inside
     ] refl e
 
+-- what is read behind an opening quote is a run of pieces and a closing quote
 sound : (cs : List ℕ) → Sound cs
 sound [] = record { inside = λ t e. absurd (cc); escaped = λ t e. absurd (cc); high = λ t e. absurd (cc); low = λ d h _ t e. absurd (cc) }
 sound (c ∷ cs) = let rest = sound cs in record { inside = inside_more c cs rest; escaped = escaped_more c cs rest; high = high_more c cs rest; low = low_more c cs rest }
 
+-- what is read is a quoted text
 from_text_of : (word text : List ℕ) → text_of word ≡ Some text → IsQuoted word text
 from_text_of [] text e = absurd (cc)
 from_text_of (c ∷ cs) text e =
@@ -112,9 +117,11 @@ from_text_of (c ∷ cs) text e =
 abbrev Reads : ℕ → List ℕ → List ℕ → Type 0
 Reads b rest piece = text_from Inside (piece ++ rest) ≡ with_byte b (text_from Inside rest)
 
+-- a plain byte is neither a quote nor a backslash
 plain_not : (b : ℕ) → is_plain b ≡ true → ((b == 34) ≡ false) × ((b == 92) ≡ false)
 plain_not b h = (grind (arith, nat_tests), grind (arith, nat_tests))
 
+-- each kind of piece is read as the byte that it stands for
 read_plain : (c b : ℕ) (rest : List ℕ) → cond (is_plain c) (Some c) None ≡ Some b → Reads b rest (c ∷ [])
 read_plain c b rest e =
     elim (is_plain c) as (λ q. is_plain c ≡ q → cond q (Some c) None ≡ Some b → Reads b rest (c ∷ [])) [
@@ -129,6 +136,7 @@ read_plain c b rest e =
       | false ↦ λ p f. absurd (cc)
     ] refl e
 
+-- no letter of an escape is the x of `\xHH`
 not_x : (c b : ℕ) → escape c ≡ Some b → (c == 120) ≡ false
 not_x c b e =
     elim (c == 120) as (λ q. (c == 120) ≡ q → q ≡ false) [
@@ -160,6 +168,7 @@ read_two h l b rest e =
       ] refl f
     ] refl e
 
+-- what a piece of four bytes stands for, by the tests of its first two
 abbrev stands_as : Bool → Bool → ℕ → ℕ → Option ℕ
 stands_as p q h l = cond (p && q) (option_and_then (λ a. option_map (λ b. a * 16 + b) (low_hex l)) (low_hex h)) None
 
@@ -182,6 +191,7 @@ read_piece (s ∷ x ∷ h ∷ l ∷ []) b rest e =
     ] refl e
 read_piece (s ∷ x ∷ h ∷ l ∷ m ∷ ms) b rest e = absurd (cc)
 
+-- a run of pieces and a closing quote are read as the bytes that the pieces stand for
 read_pieces : (pieces : List (List ℕ)) (text : List ℕ) → map stands_for pieces ≡ map Some text → text_from Inside (concat pieces ++ 34 ∷ []) ≡ Some text
 read_pieces [] [] e = refl
 read_pieces [] (b ∷ bs) e = absurd (cc)
@@ -197,10 +207,11 @@ read_pieces (p ∷ ps) (b ∷ bs) e =
 pub text_of-is : (word text : List ℕ) → (text_of word ≡ Some text → IsQuoted word text) × (IsQuoted word text → text_of word ≡ Some text)
 text_of-is word text = (from_text_of word text, λ q. ap text_of q.between ∙ read_pieces q.pieces text q.stand)
 
--- the canonical spelling of a byte stands for it
+-- a lower-case digit is read back
 hex_back : (d : ℕ) → d < 16 → low_hex (digit_char d) ≡ Some d
 hex_back d l = grind (arith, nat_tests)
 
+-- what a byte spells stands for it
 stands_for-spelled : (b : ℕ) → b < 256 → stands_for (spelled b) ≡ Some b
 stands_for-spelled b l =
     cond_both (is_plain b) _ _ (λ s. stands_for s ≡ Some b) (λ p. ap (λ (q : Bool). cond q (Some b) None) p) (λ _.
@@ -210,14 +221,17 @@ stands_for-spelled b l =
     cond_both (b == 9) _ _ (λ s. stands_for s ≡ Some b) (λ h. ap Some (sym (eqb-true b 9 h))) (λ _.
     (λ i. option_and_then (λ a. option_map (λ d. a * 16 + d) (hex_back (b % 16) (omega arith) i)) (hex_back (b / 16) (omega arith) i)) ∙ ap Some (omega arith))))))
 
+-- the bytes of a text, one by one
 by_recursion : (text : List ℕ) → All (λ b. b < 256) text → AllByRecursion (λ b. b < 256) text
 by_recursion [] h = tt
 by_recursion (b ∷ bs) h = (h 0 0 (omega arith), by_recursion bs (λ k d l. h (suc k) d (omega arith)))
 
+-- what a text spells stands for it
 stand_all : (text : List ℕ) → AllByRecursion (λ b. b < 256) text → map stands_for (map spelled text) ≡ map Some text
 stand_all [] h = refl
 stand_all (b ∷ bs) h = λ i. stands_for-spelled b h.0 i ∷ stand_all bs h.1 i
 
+-- the pieces of a text are its spelling
 concat-map : (text : List ℕ) → concat (map spelled text) ≡ flat_map spelled text
 concat-map [] = refl
 concat-map (b ∷ bs) = ap (λ (t : List ℕ). spelled b ++ t) (concat-map bs)
