@@ -3,8 +3,9 @@ mod files;
 
 use crate::{ElfError, Part, import};
 use damaged::{DAMAGED, Patch};
-use files::{FACTS_OF_B, FILE_A, FILE_B};
+use files::FACTS_OF_B;
 use rvd_fact::{Change, Source, Value, What};
+use sample_files::{FILE_A, FILE_B};
 use std::alloc::{AllocError, Global};
 use std::process::Abort;
 use std::test::Fail;

@@ -4,5 +4,4 @@ ghost use Rattle.rvd_listing.specs.Names.{PrimaryLaw};
 /// and there is none exactly where the address has no symbol.
 pub fn primary_law()
     ensures { PrimaryLaw }
-{
-}
+{}

@@ -39,7 +39,7 @@ pub fn report(rt: &impl Eprint, words: &[String], ending: &Ending) -> io::Result
     let file = word_at(words, 1);
     match *ending {
         Ending::Done => Ok(()),
-        Ending::Usage => eprintln!(rt; "usage: rvd show FILE"),
+        Ending::Usage => eprintln!(rt; "usage: rvd show FILE, or rvd list FILE"),
         Ending::ReadFault { word } => {
             let file = word_at(words, word as usize);
             eprintln!(rt; "rvd: {file}: can't be read")

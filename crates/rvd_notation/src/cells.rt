@@ -12,7 +12,12 @@ use rvd_fact::{Addr, Bytes, Cell, Form, Key, Perm, RefClass, Text, Value};
 use rvd_text::{push_dec, push_hex8, push_quoted};
 use std::alloc::AllocError;
 
-fn push_block(out: &mut Vec<u8>, len: u32, perm: Perm, bytes: &Option<Bytes>) -> Result<(), AllocError>
+fn push_block(
+    out: &mut Vec<u8>,
+    len: u32,
+    perm: Perm,
+    bytes: &Option<Bytes>,
+) -> Result<(), AllocError>
     ensures ok { OnOk result (out.new.items ≡ out.old.items ++ (codes "block " ++ hex8 len ++ codes " " ++ perm_word perm ++ codes " " ++ init_word bytes.now)) }
     ensures err { OnErr result (Keeps out.old.items out.new.items) }
 {

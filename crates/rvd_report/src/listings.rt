@@ -29,7 +29,8 @@ fn push_lines(alloc: Global, out: &mut Vec<u8>, program: &Program) -> Result<(),
     ensures ok { OnOk result (out.new.items ≡ out.old.items ++ lines program.now program.now) }
     ensures err { OnErr result (Keeps out.old.items out.new.items) }
 {
-    for entry in program.entries() {
+    let entries = program.entries();
+    for entry in entries {
         push_full_line(alloc, out, program, &entry.0, entry.1.cell())?;
     }
     Ok(())

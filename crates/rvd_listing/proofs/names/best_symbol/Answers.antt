@@ -12,9 +12,9 @@ loop-slot-preserved c =
     record {
       within = let w : c.in-Some.found < 64 = next.within in omega arith;
       best =
-        c.better-best.ensures
-        ∙ ap (λ b. better b (Some c.in-Some.cell.now)) c.loop-slot.invariant.best
-        ∙ sym (best_below-next c.args.program.now c.args.at c.loop-slot.slot c.in-Some.found c.in-Some.cell.now next.from next.none next.here);
+          c.better-best.ensures
+          ∙ ap (λ b. better b (Some c.in-Some.cell.now)) c.loop-slot.invariant.best
+          ∙ sym (best_below-next c.args.program.now c.args.at c.loop-slot.slot c.in-Some.found c.in-Some.cell.now next.from next.none next.here);
     }
 
 pub returns-in_default : goal.returns-in_default
