@@ -2,6 +2,7 @@
 //! one line about a fault to standard error, and ends with the status.
 #![tactic(auto)]
 
+mod parts;
 mod report;
 
 ghost use Rattle.std.specs.Prelude.{◌≡◌, ◌≤◌, IfOk, vec_len};

@@ -1,3 +1,5 @@
+use crate::parts::PartName;
+use rvd_elf::ElfError;
 use rvd_fact::{TextCause, What};
 use rvd_top::Ending;
 use std::io;
@@ -34,6 +36,20 @@ fn cause_of(cause: TextCause) -> &'static str {
     }
 }
 
+fn report_damage(rt: &impl Eprint, file: &str, refusal: ElfError) -> io::Result<()> {
+    match refusal {
+        ElfError::Truncated(part, at) => {
+            let part = PartName(part);
+            eprintln!(rt; "rvd: {file}: damaged: {part} at offset {at} leaves the file")
+        }
+        ElfError::BadEntrySize(part, size) => {
+            let part = PartName(part);
+            eprintln!(rt; "rvd: {file}: damaged: {part} has entries of {size} bytes")
+        }
+        _ => eprintln!(rt; "rvd: {file}: damaged: {refusal}"),
+    }
+}
+
 /// Prints one line about an ending other than Done to standard error.
 pub fn report(rt: &impl Eprint, words: &[String], ending: &Ending) -> io::Result<()> {
     let file = word_at(words, 1);
@@ -45,7 +61,7 @@ pub fn report(rt: &impl Eprint, words: &[String], ending: &Ending) -> io::Result
             eprintln!(rt; "rvd: {file}: can't be read")
         }
         Ending::NotThisKind(refusal) => eprintln!(rt; "rvd: {file}: {refusal}"),
-        Ending::Damaged(refusal) => eprintln!(rt; "rvd: {file}: damaged: {refusal}"),
+        Ending::Damaged(refusal) => report_damage(rt, file, refusal),
         Ending::BadText { word, line, cause } => {
             let (file, cause) = (word_at(words, word as usize), cause_of(cause));
             eprintln!(rt; "rvd: {file}: line {line}: {cause}")
