@@ -15,7 +15,7 @@ fn word_at(words: &[String], place: usize) -> &str {
 // What a limit counts, and the limit.
 fn limit_of(what: What) -> &'static str {
     match what {
-        What::FileBytes => "bytes of a file, at most 33554432",
+        What::FileBytes => "bytes, at most 33554432",
         What::Lines => "lines, at most 100000",
         What::Blocks => "memory blocks, at most 64",
         What::LoadedBytes => "loaded bytes, at most 4194304",
@@ -68,6 +68,10 @@ pub fn report(rt: &impl Eprint, words: &[String], ending: &Ending) -> io::Result
         }
         Ending::WriteFault => eprintln!(rt; "rvd: standard output can't be written"),
         Ending::Memory => eprintln!(rt; "rvd: out of memory"),
+        Ending::TooLarge {
+            what: What::FileBytes,
+            count,
+        } => { eprintln!(rt; "rvd: {file}: too large: more than {count} bytes") }
         Ending::TooLarge { what, count } => {
             let limit = limit_of(what);
             eprintln!(rt; "rvd: {file}: too large: {count} {limit}")
