@@ -30,21 +30,22 @@ programs_on S (cs ∷ rs) = applied_all S cs ∷ programs_on (applied_all S cs) 
 abbrev pub history : Program → Records → History
 history S r = record { past = programs_back S r.undos; now = S; undone = programs_on S r.redos }
 
--- changes that fit a valid program and lead from it to another
+-- changes that fit a program and lead from it to another, both valid
 pub record Lead (T : Program) (cs : List Change) (S : Program) : Type 0 where
-  pub valid : IsValid T
+  pub before : IsValid T
   pub fits : Fits T cs
   pub to : applied_all T cs ≡ S
+  pub after : IsValid S
 
 -- each record led to the program that it is undone from
 abbrev pub LedTo : Program → List (List Change) → Type 0
 LedTo S [] = Unit {0}
 LedTo S (cs ∷ rs) = Lead (reverted_all S cs) cs S × LedTo (reverted_all S cs) rs
 
--- each record fits the program that it is redone on
+-- each record leads on from the program that it is redone on
 abbrev pub LeadOn : Program → List (List Change) → Type 0
 LeadOn S [] = Unit {0}
-LeadOn S (cs ∷ rs) = Fits S cs × LeadOn (applied_all S cs) rs
+LeadOn S (cs ∷ rs) = Lead S cs (applied_all S cs) × LeadOn (applied_all S cs) rs
 
 -- a program and at most 50 records stand for a history
 pub record Stands (S : Program) (r : Records) : Type 0 where

@@ -16,6 +16,8 @@
 mod changes;
 mod limit;
 mod records;
+#[cfg(test)]
+mod tests;
 
 pub use limit::UNDO_DEPTH;
 pub use records::Undos;

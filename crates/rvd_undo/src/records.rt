@@ -85,6 +85,7 @@ impl Undos {
 
     /// Takes the latest transaction back: the program is again what it was before that one. False where there is none.
     /// Only want of memory refuses it, and then all is as before.
+    #[tactic(auto, using(crate::proofs::Histories::came_back))]
     pub fn undo(&mut self, program: &mut Program) -> Result<bool, AllocError>
         requires { Stands program.old self.old.records }
         ensures moved { IfOk result (λ moved. IsTrue moved ↔ (0 < length self.old.records.undos)) }
@@ -97,7 +98,7 @@ impl Undos {
             None => Ok(false),
             Some(changes) => {
                 self.redos.reserve(1)?;
-                program.revert(changes.list())?;
+                changes.undo_on(program)?;
                 move_front(&mut self.undos, &mut self.redos);
                 Ok(true)
             }
@@ -106,6 +107,7 @@ impl Undos {
 
     /// Brings the latest transaction back that was undone. False where there is none. Only want of memory refuses it, and
     /// then all is as before.
+    #[tactic(auto, using(crate::proofs::Histories::came_back))]
     pub fn redo(&mut self, program: &mut Program) -> Result<bool, AllocError>
         requires { Stands program.old self.old.records }
         ensures moved { IfOk result (λ moved. IsTrue moved ↔ (0 < length self.old.records.redos)) }
@@ -118,7 +120,7 @@ impl Undos {
             None => Ok(false),
             Some(changes) => {
                 self.undos.reserve(1)?;
-                program.apply(changes.list())?;
+                changes.redo_on(program)?;
                 move_front(&mut self.redos, &mut self.undos);
                 Ok(true)
             }
