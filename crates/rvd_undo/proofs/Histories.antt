@@ -1,16 +1,15 @@
--- Records that stand for a history with a program. Use `push_is_commit` after a push, `front_can` before the record in
--- front is undone, and `came_back` after one was redone: the program before it is the one that an undo gives.
-use Rattle.std.proofs.Common.{◌≡◌, ◌+◌, ◌<◌, ◌≤◌, ℕ, zero, suc, List, [], ◌∷◌, ◌++◌, length, take, drop, refl, sym, ap, ◌∙◌, subst, arith}
+-- Records that stand for a history with a program. Use `push_is_commit` after a push, `can_undo` before changes that led
+-- to a program are undone, and `came_back` where changes led from one program to another: undone, they lead back to it.
+use Rattle.std.proofs.Common.{◌≡◌, ◌+◌, ◌≤◌, ℕ, zero, suc, List, [], ◌∷◌, length, take, refl, sym, ap, subst, arith}
 use Rattle.std.proofs.lemmas.List.{length-take}
-use Rattle.std.specs.Prelude.{slice_index_or}
 use Rattle.rvd_fact.specs.declared.cells.Change.{Change}
 use Rattle.rvd_fact.specs.Program.{Program, applied_all, reverted_all}
 use Rattle.rvd_fact.specs.Valid.{IsValid, Fits, Reverts}
 use Rattle.rvd_fact.proofs.Programs.{reverted_all-applied_all}
 use Rattle.rvd_program.proofs.Applying.{valid_all, can_revert}
 use Rattle.rvd_undo.specs.declared.limit.TheConstants.{UNDO_DEPTH}
-use Rattle.rvd_undo.specs.History.{History, after_undo, after_redo}
-use Rattle.rvd_undo.specs.Records.{Records, Lead, LedTo, LeadOn, Stands, IsCommit, history, programs_back, programs_on, after_push}
+use Rattle.rvd_undo.specs.History.{History}
+use Rattle.rvd_undo.specs.Records.{Records, Lead, LedTo, Stands, IsCommit, history, programs_back, after_push}
 
 -- what led to a program can be undone there
 pub can_undo : (S : Program) (cs : List Change) → Lead (reverted_all S cs) cs S → Reverts S cs
@@ -33,11 +32,8 @@ few-take rs = simp length-take (omega arith)
 pub push_commits : (r : Records) (cs : List Change) → IsCommit r cs (after_push r cs)
 push_commits r cs S stands fits =
     let home : reverted_all (applied_all S cs) cs ≡ S = reverted_all-applied_all S cs stands.valid.in_order fits in
-    let led : LedTo (applied_all S cs) (cs ∷ r.undos) =
-    subst (λ (T : Program). Lead T cs (applied_all S cs) × LedTo T r.undos) (sym home) (record { before = stands.valid; fits = fits; to = refl; after = valid_all S cs stands.valid fits }, stands.back) in
-    let past : programs_back (applied_all S cs) (take UNDO_DEPTH (cs ∷ r.undos)) ≡ take UNDO_DEPTH (S ∷ programs_back S r.undos) =
-    subst (λ (T : Program). programs_back (applied_all S cs) (take UNDO_DEPTH (cs ∷ r.undos)) ≡ take UNDO_DEPTH (T ∷ programs_back T r.undos)) home
-    (programs_back-take UNDO_DEPTH (applied_all S cs) (cs ∷ r.undos)) in (
+    let led : LedTo (applied_all S cs) (cs ∷ r.undos) = subst (λ (T : Program). Lead T cs (applied_all S cs) × LedTo T r.undos) (sym home) (record { before = stands.valid; fits = fits; to = refl; after = valid_all S cs stands.valid fits }, stands.back) in
+    let past : programs_back (applied_all S cs) (take UNDO_DEPTH (cs ∷ r.undos)) ≡ take UNDO_DEPTH (S ∷ programs_back S r.undos) = subst (λ (T : Program). programs_back (applied_all S cs) (take UNDO_DEPTH (cs ∷ r.undos)) ≡ take UNDO_DEPTH (T ∷ programs_back T r.undos)) home (programs_back-take UNDO_DEPTH (applied_all S cs) (cs ∷ r.undos)) in (
       record {
         valid = valid_all S cs stands.valid fits;
         back = led_to-take UNDO_DEPTH (applied_all S cs) (cs ∷ r.undos) led;
