@@ -1,6 +1,6 @@
 -- The live entries of a transaction, in the order in which they joined, and what becomes of an actor's. Use these
 -- through the words of `Transaction`, which say what becomes of the whole transaction.
-use Rattle.std.specs.Prelude.{ℕ, Bool, true, false, not, ◌==◌, nat_lt, List, [], ◌∷◌, count_by, filter, if◌then◌else◌}
+use Rattle.std.specs.Prelude.{ℕ, Bool, not, ◌==◌, nat_lt, List, [], ◌∷◌, count_by, filter, if◌then◌else◌}
 use Rattle.rvd_trans.specs.declared.entries.Entry.{Entry}
 
 -- how many of the entries are an actor's

@@ -1,7 +1,7 @@
 -- An open transaction that actors share, and what each call makes of it: it is opened by an entry, others join it,
 -- each entry ends by a commit or by an abort, and changes are noted in order. An entry that has ended is forgotten but
 -- for whether it aborted: a transaction in which an entry aborted is rolled back as a whole.
-use Rattle.std.specs.Prelude.{ℕ, ◌-◌, Bool, true, false, not, ◌||◌, List, [], ◌∷◌, ◌++◌, length, if◌then◌else◌}
+use Rattle.std.specs.Prelude.{ℕ, ◌-◌, Bool, false, not, ◌||◌, List, [], ◌∷◌, ◌++◌, length, if◌then◌else◌}
 use Rattle.rvd_fact.specs.declared.cells.Change.{Change}
 use Rattle.rvd_trans.specs.declared.entries.Entry.{Entry}
 use Rattle.rvd_trans.specs.Entries.{count_of, has_of, without_newest, without_all}
@@ -36,7 +36,8 @@ started number actor text = record {
   entries = record { number = number; actor = actor } ∷ [];
   aborted = false;
   changes = [];
-  spare = 0 }
+  spare = 0;
+}
 
 -- an actor joins by a new entry
 abbrev pub joined : ℕ → ℕ → Transaction → Transaction

@@ -18,19 +18,21 @@ pub struct Joint {
 
 impl Model for Joint {
     ghost use Rattle.std.specs.Prelude.{◌-◌, ◌≤◌, length, vec_len, vec_capacity};
+    ghost use Rattle.rvd_trans.specs.declared.entries.TheConstants.{MOST_LIVE};
     ghost use Rattle.rvd_trans.specs.Transaction.{Transaction};
 
     ghost Value = { Transaction };
 
     ghost view = { λ joint. record {
-        opener = joint.opener;
-        text = joint.text;
-        entries = joint.entries.items;
-        aborted = joint.aborted;
-        changes = joint.changes.items;
-        spare = vec_capacity joint.changes - vec_len joint.changes } };
+      opener = joint.opener;
+      text = joint.text;
+      entries = joint.entries.items;
+      aborted = joint.aborted;
+      changes = joint.changes.items;
+      spare = vec_capacity joint.changes - vec_len joint.changes;
+    } };
 
-    ghost invariant = { λ joint. length joint.entries.items ≤ 64 };
+    ghost invariant = { λ joint. length joint.entries.items ≤ MOST_LIVE };
 }
 
 impl Joint {
@@ -143,5 +145,95 @@ impl Joint {
             ..
         } = self;
         (opener, text, changes)
+    }
+}
+
+#[cfg(test)]
+mod tests {
+    use super::*;
+    use Call::{End, EndAll, Join};
+    use rvd_fact::{Cell, Key, Kind, Source, Value};
+    use std::test::Fail;
+
+    fn crosses_threads<T: Send + Sync>() {}
+
+    #[test]
+    fn a_transaction_may_cross_threads() {
+        crosses_threads::<Entry>();
+        crosses_threads::<Joint>();
+    }
+
+    #[derive(Drop)]
+    enum Call {
+        Join(u32),
+        End(u32, bool),
+        EndAll(u32),
+    }
+
+    fn answer(joint: &mut Joint, call: &Call) -> Result<Option<u32>, AllocError> {
+        match call {
+            Join(actor) => {
+                if joint.live() < MOST_LIVE {
+                    joint.join(7, *actor)?;
+                }
+                Ok(None)
+            }
+            End(actor, keep) => Ok(joint.end(*actor, *keep)),
+            EndAll(actor) => Ok(Some(joint.end_all(*actor))),
+        }
+    }
+
+    fn mark(at: u32) -> Change {
+        Change {
+            key: Key {
+                at,
+                kind: Kind::Mark,
+                sub: 0,
+            },
+            before: None,
+            after: Some(Cell {
+                value: Value::Mark,
+                source: Source::UserDefined,
+            }),
+        }
+    }
+
+    #[test]
+    fn entries_join_and_end(rt: HostRuntime) -> Result<(), Fail> {
+        let text = Text::of(rt.alloc(), vec![in rt.alloc(); b'x']?)?;
+        let mut joint = Joint::start(rt.alloc(), 1, 1, text)?;
+        // The call, its answer, then how many entries are live, how many of them are actor 1's, and
+        // whether one has aborted.
+        let rows = [
+            ("another joins", Join(2), None, 2, 1, false),
+            ("the opener joins again", Join(1), None, 3, 2, false),
+            ("a stranger has none", End(3, false), None, 3, 2, false),
+            ("one of two commits", End(1, true), Some(2), 2, 1, false),
+            ("the other aborts", End(2, false), Some(1), 1, 1, true),
+            ("it has none left", End(2, true), None, 1, 1, true),
+            ("it joins again", Join(2), None, 2, 1, true),
+            ("the opener joins again", Join(1), None, 3, 2, true),
+            ("the opener's abort", EndAll(1), Some(2), 1, 0, true),
+            ("a stranger's are none", EndAll(3), Some(0), 1, 0, true),
+            ("the last commits", End(2, true), Some(0), 0, 0, true),
+        ];
+        for (name, call, said, live, of_one, doomed) in &rows {
+            assert_eq!(rt; answer(&mut joint, call)?, *said, "{name}");
+            assert_eq!(rt; joint.live(), *live, "{name}");
+            assert_eq!(rt; joint.live_of(1), *of_one, "{name}");
+            assert_eq!(rt; joint.doomed(), *doomed, "{name}");
+        }
+        joint.reserve(2)?;
+        joint.note(mark(8));
+        joint.note(mark(4));
+        let (opener, text, changes) = joint.into_parts();
+        assert_eq!(rt; opener, 1);
+        assert_eq!(rt; text.list(), b"x".as_slice());
+        let noted: Vec<u32> = changes
+            .iter()
+            .map(|change| change.key.at)
+            .collect(rt.alloc())?;
+        assert_eq!(rt; noted.as_slice(), [8, 4].as_slice());
+        Ok(())
     }
 }
