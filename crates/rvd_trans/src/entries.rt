@@ -1,4 +1,4 @@
-ghost use Rattle.std.specs.Prelude.{◌≡◌, ◌<◌, ◌≤◌, true, false, length, remove, IfNone, IfSome};
+ghost use Rattle.std.specs.Prelude.{◌≡◌, ◌<◌, ◌≤◌, length, remove, is_some, IfSome};
 ghost use Rattle.rvd_trans.specs.Entries.{count_of, has_of, without_newest};
 
 /// The most entries that may be live at once.
@@ -23,8 +23,9 @@ pub(crate) fn count_of(entries: &[Entry], actor: u32) -> u32
 
 /// The place of the newest of an actor's entries.
 pub(crate) fn newest_of(entries: &[Entry], actor: u32) -> Option<usize>
-    ensures none { IfNone result (has_of actor entries.now ≡ false) }
-    ensures some { IfSome result (λ place. (place < length entries.now) × (has_of actor entries.now ≡ true) × (remove entries.now place ≡ without_newest actor entries.now)) }
+    ensures found { is_some result ≡ has_of actor entries.now }
+    ensures within { IfSome result (λ place. place < length entries.now) }
+    ensures newest { IfSome result (λ place. remove entries.now place ≡ without_newest actor entries.now) }
 {
     let mut place = entries.len();
     while place > 0 {
