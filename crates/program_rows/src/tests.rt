@@ -162,7 +162,10 @@ fn look_ups_answer_from_the_facts(rt: HostRuntime) -> Result<(), Fail> {
     assert!(rt; program.bytes(alloc, START + 14, 3)?.is_none());
     assert!(rt; program.has_ref_to(START + 12, RefClass::Call));
     let refs = program.refs_from(alloc, START + 4)?;
-    assert_eq!(rt; refs.as_slice(), [(0u8, RefClass::Call, START + 12)].as_slice());
+    assert_eq!(rt;
+        refs.as_slice(),
+        [(0u8, RefClass::Call, START + 12)].as_slice()
+    );
     let gone = change(alloc, &program, key(START, Kind::Unit, 0), None)?;
     if program.fits(&gone)? {
         program.apply(&gone)?;
