@@ -1,10 +1,16 @@
--- How a command ends on what its file holds. Use `Ends` where the file's bytes are known to be within the
--- limit, and `EndsAbove` where they pass it.
-use Rattle.std.specs.Prelude.{◌≡◌, ℕ, ◌<◌, List, take, Option, Result, Ok, Err}
+-- How a command ends on what its file holds. Use `Ends` and `PlayEnds` where the files' bytes are
+-- known to be within the limit, and `EndsAbove` where they pass it.
+use Rattle.std.specs.Prelude.{◌≡◌, ℕ, ◌<◌, List, [], take, Option, Some, None, Result, Ok, Err}
 use Rattle.std.specs.Io.KnownBytes.{Appends}
 use Rattle.rvd_fact.specs.declared.cells.Change.{Change}
 use Rattle.rvd_fact.specs.declared.causes.What.{What}
-use Rattle.rvd_fact.specs.declared.causes.What.TheVariants.{FileBytes}
+use Rattle.rvd_fact.specs.declared.causes.What.TheVariants.{FileBytes, Lines}
+use Rattle.rvd_fact.specs.declared.causes.TextCause.TheVariants.{UnknownWord}
+use Rattle.rvd_fact.specs.Program.{Program, applied_all}
+use Rattle.rvd_script.specs.declared.errors.ScriptError.{ScriptError}
+use Rattle.rvd_script.specs.declared.errors.ScriptError.TheVariants.{TooManyLines, Bad, OutOfMemory}
+use Rattle.rvd_script.specs.Legal.{Events}
+use Rattle.rvd_script.specs.Files.{events_of}
 use Rattle.rvd_elf.specs.declared.refusals.ElfError.{ElfError}
 use Rattle.rvd_elf.specs.declared.refusals.ElfError.TheVariants as elf
 use Rattle.rvd_elf.specs.Import.{import_of}
@@ -12,6 +18,7 @@ use Rattle.rvd_top.specs.declared.endings.Ending.{Ending}
 use Rattle.rvd_top.specs.declared.endings.Ending.TheVariants.{Done, Usage, ReadFault, NotThisKind, Damaged, BadText, WriteFault, Memory, TooLarge, Differs}
 use Rattle.rvd_top.specs.declared.words.Print.{Print}
 use Rattle.rvd_top.specs.Texts.{text_of}
+use Rattle.rvd_top.specs.Plays.{IsPlayed, first_unplayed}
 
 -- the exit status
 abbrev pub status_of : Ending → ℕ
@@ -50,6 +57,43 @@ Prints old new print (Ok changes) ending = ⊥
 Prints old new print (Err refusal) Done = ⊥
 Prints old new print (Err refusal) WriteFault = ⊥
 Prints old new print (Err refusal) ending = ending ≡ ending_of refusal
+
+-- the ending for a refusal of an event file, which is the third word
+abbrev pub script_ending : ScriptError → Ending
+script_ending (TooManyLines count) = TooLarge Lines count
+script_ending (Bad line cause) = BadText 2 line cause
+script_ending OutOfMemory = Memory
+
+-- How playing an event file on a program ends, and what the sink then holds: the whole text of what its lines lead to, or
+-- a front of it after a fault of writing; a line that can't be played yet is refused.
+abbrev pub PlaysOn : Option (List ℕ) → Option (List ℕ) → Program → Events → Option ℕ → Ending → Type 0
+PlaysOn old new P file None Done = (text : List ℕ) × IsPlayed P file text × Appends old new text
+PlaysOn old new P file None WriteFault = (text : List ℕ) × IsPlayed P file text × ((n : ℕ) × Appends old new (take n text))
+PlaysOn old new P file None ending = ⊥
+PlaysOn old new P file (Some line) Done = ⊥
+PlaysOn old new P file (Some line) WriteFault = ⊥
+PlaysOn old new P file (Some line) ending = ending ≡ BadText 2 line UnknownWord
+
+abbrev pub PlaysOrMemory : Option (List ℕ) → Option (List ℕ) → Program → Events → Ending → Type 0
+PlaysOrMemory old new P file Memory = Unit {0}
+PlaysOrMemory old new P file ending = PlaysOn old new P file (first_unplayed file.lines) ending
+
+-- How `play` ends on what is imported and on what an event file says: a refusal of either ends it, the import's first.
+-- Memory may always run out.
+abbrev pub PlaysBoth : Option (List ℕ) → Option (List ℕ) → Result (List Change) ElfError → Result Events ScriptError → Ending → Type 0
+PlaysBoth old new facts events Memory = Unit {0}
+PlaysBoth old new (Err refusal) events Done = ⊥
+PlaysBoth old new (Err refusal) events WriteFault = ⊥
+PlaysBoth old new (Err refusal) events ending = ending ≡ ending_of refusal
+PlaysBoth old new (Ok changes) (Err refusal) Done = ⊥
+PlaysBoth old new (Ok changes) (Err refusal) WriteFault = ⊥
+PlaysBoth old new (Ok changes) (Err refusal) ending = ending ≡ script_ending refusal
+PlaysBoth old new (Ok changes) (Ok file) ending = PlaysOrMemory old new (applied_all [] changes) file ending
+
+-- How it ends on the bytes of both files within the limit. Whether a fault of reading comes isn't told by them.
+abbrev pub PlayEnds : Option (List ℕ) → Option (List ℕ) → List ℕ → List ℕ → Ending → Type 0
+PlayEnds old new bytes lines (ReadFault word) = Unit {0}
+PlayEnds old new bytes lines ending = PlaysBoth old new (import_of bytes) (events_of lines) ending
 
 -- How it ends on the bytes of a file within the limit. Whether a fault of reading comes isn't told by them.
 abbrev pub Ends : Option (List ℕ) → Option (List ℕ) → Print → List ℕ → Ending → Type 0

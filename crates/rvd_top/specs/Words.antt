@@ -1,5 +1,6 @@
--- The command words. A list of words is a command exactly where `command_of` gives something of it.
-use Rattle.std.specs.Prelude.{ℕ, Bool, ◌&&◌, ◌==◌, nat_lt, if◌then◌else◌, List, [], ◌∷◌, length, slice_index, codes, Option, None, Some}
+-- The command words. A list of words is a command exactly where it passes `is_command`; `print_of` and
+-- `play_of` say which.
+use Rattle.std.specs.Prelude.{ℕ, Bool, ◌&&◌, ◌||◌, not, is_some, ◌==◌, nat_lt, if◌then◌else◌, List, [], ◌∷◌, length, slice_index, codes, Option, None, Some}
 use Rattle.std.specs.Option.{option_map}
 use Rattle.std.specs.Str.{bytes_eq}
 use Rattle.rvd_top.specs.declared.words.Print.{Print}
@@ -13,6 +14,15 @@ abbrev pub print_named : List ℕ → Option Print
 print_named word = if bytes_eq word (codes "show") then Some Blocks else (if bytes_eq word (codes "list") then Some Listing else None)
 
 -- `show FILE` and `list FILE`, where FILE doesn't begin with a dash
-abbrev pub command_of : List (List ℕ) → Option (Print × List ℕ)
-command_of (word ∷ file ∷ []) = if begins_with_dash file then None else option_map (λ print. (print, file)) (print_named word)
-command_of words = None
+abbrev pub print_of : List (List ℕ) → Option (Print × List ℕ)
+print_of (word ∷ file ∷ []) = if begins_with_dash file then None else option_map (λ print. (print, file)) (print_named word)
+print_of words = None
+
+-- `play FILE EVENTS`, where neither begins with a dash
+abbrev pub play_of : List (List ℕ) → Option (List ℕ × List ℕ)
+play_of (word ∷ file ∷ events ∷ []) = if bytes_eq word (codes "play") && not (begins_with_dash file || begins_with_dash events) then Some (file, events) else None
+play_of words = None
+
+-- whether words are a command
+abbrev pub is_command : List (List ℕ) → Bool
+is_command words = is_some (print_of words) || is_some (play_of words)

@@ -2,6 +2,7 @@ ghost use Rattle.std.specs.Prelude.{◌≡◌};
 
 use rvd_elf::ElfError;
 use rvd_fact::{TextCause, What};
+use rvd_script::ScriptError;
 
 /// How a command ends.
 #[derive(Clone, Copy, Debug, PartialEq, Eq)]
@@ -41,7 +42,7 @@ pub enum Ending {
 }
 
 impl Ending {
-    ghost use Rattle.rvd_top.specs.Endings.{IsFault, ending_of, status_of};
+    ghost use Rattle.rvd_top.specs.Endings.{IsFault, ending_of, script_ending, status_of};
 
     /// The exit status, 0 to 9 in the order of the variants.
     pub fn status(&self) -> u8
@@ -65,6 +66,7 @@ impl Ending {
     pub(crate) fn of_refusal(refusal: ElfError) -> Ending
         ensures ending { result ≡ ending_of refusal }
         ensures no_fault { IsFault result → ⊥ }
+        ensures usage { result ≡ Ending.Usage → ⊥ }
     {
         match refusal {
             ElfError::BadEntrySize(..)
@@ -76,6 +78,26 @@ impl Ending {
             ElfError::TooMany(what, count) => Ending::TooLarge { what, count },
             ElfError::OutOfMemory => Ending::Memory,
             _ => Ending::NotThisKind(refusal),
+        }
+    }
+
+    /// The ending for a refusal of an event file.
+    pub(crate) fn of_script(refusal: ScriptError) -> Ending
+        ensures ending { result ≡ script_ending refusal }
+        ensures no_fault { IsFault result → ⊥ }
+        ensures usage { result ≡ Ending.Usage → ⊥ }
+    {
+        match refusal {
+            ScriptError::TooManyLines(count) => Ending::TooLarge {
+                what: What::Lines,
+                count,
+            },
+            ScriptError::Bad { line, cause } => Ending::BadText {
+                word: 2,
+                line,
+                cause,
+            },
+            ScriptError::OutOfMemory => Ending::Memory,
         }
     }
 }

@@ -1,0 +1,159 @@
+ghost use Rattle.std.specs.Prelude.{◌≡◌, ◌≢◌, ◌⊎◌, ◌<◌, ◌≤◌, [], ℕ, List, None, Some, Ok, IfOk, length};
+ghost use Rattle.std.specs.Io.KnownBytes.{Appends};
+ghost use Rattle.rvd_io.specs.Causes.{Rose};
+ghost use Rattle.rvd_fact.specs.declared.cells.Change.{Change};
+ghost use Rattle.rvd_fact.specs.Program.{Program, applied_all};
+ghost use Rattle.rvd_fact.specs.Valid.{Fits};
+ghost use Rattle.rvd_elf.specs.Import.{import_of};
+ghost use Rattle.rvd_script.specs.Legal.{Events};
+ghost use Rattle.rvd_script.specs.Files.{events_of};
+ghost use Rattle.rvd_top.specs.Plays.{IsPlayed, first_unplayed};
+ghost use Rattle.rvd_top.specs.Runs.{PlayRuns};
+ghost use Rattle.rvd_top.specs.Endings.{PlayEnds, PlaysBoth, PlaysOrMemory, EndsAbove, IsDoneOrMemory, KeepsSink};
+
+use crate::endings::Ending;
+use crate::playing::{first_unplayed, play};
+use crate::runs::MAX_FILE;
+use rvd_elf::import;
+use rvd_event::Names;
+use rvd_fact::{Change, TextCause, What};
+use rvd_io::{Cabinet, FetchError, PutError, Sink, put_all};
+use rvd_program::Program;
+use rvd_report::{history, listing};
+use rvd_script::{EventFile, read_events};
+use std::alloc::{AllocError, Global};
+
+// The program of the facts of a file.
+fn program_of(alloc: Global, changes: &[Change]) -> Result<Program, AllocError>
+    requires { Fits [] changes.now }
+    ensures { IfOk result (λ program. program ≡ applied_all [] changes.now) }
+{
+    let mut program = Program::empty(alloc)?;
+    program.apply(changes)?;
+    Ok(program)
+}
+
+// The text of playing an event file on a program.
+fn played_text(alloc: Global, program: Program, file: &EventFile) -> Result<Vec<u8>, AllocError>
+    requires { first_unplayed file.now.lines ≡ None }
+    ensures { IfOk result (λ text. IsPlayed program file.now text.items) }
+{
+    let names = Names {
+        sessions: file.sessions(),
+        workers: file.workers(),
+    };
+    let early = play(alloc, program, file)?;
+    let mut text = Vec::new(alloc);
+    history(early.steps(), names, &mut text)?;
+    listing(alloc, early.base(), &mut text)?;
+    Ok(text)
+}
+
+// Plays an event file on a program and puts the text.
+fn play_on<K: Sink>(alloc: Global, program: Program, file: &EventFile, out: &mut K) -> Ending
+    ensures plays { PlaysOrMemory (K.contents out.old) (K.contents out.new) program file.now result }
+    ensures sink { KeepsSink result out.old out.new }
+    ensures read { (word : ℕ) → result ≢ Ending.ReadFault word }
+    ensures usage { result ≢ Ending.Usage }
+    ensures write { result ≡ Ending.WriteFault → Rose (K.faults out.old) (K.faults out.new) }
+{
+    if let Some(line) = first_unplayed(file.lines()) {
+        return Ending::BadText {
+            word: 2,
+            line,
+            cause: TextCause::UnknownWord,
+        };
+    }
+    let Ok(text) = played_text(alloc, program, file) else {
+        return Ending::Memory;
+    };
+    match put_all(out, &text) {
+        Ok(()) => Ending::Done,
+        Err(PutError::Failed) => Ending::WriteFault,
+    }
+}
+
+// Imports the bytes of a file and plays the lines of an event file on it.
+fn play_bytes<K: Sink>(alloc: Global, bytes: &[u8], lines: &[u8], out: &mut K) -> Ending
+    ensures plays { PlaysBoth (K.contents out.old) (K.contents out.new) (import_of bytes.now) (events_of lines.now) result }
+    ensures sink { KeepsSink result out.old out.new }
+    ensures read { (word : ℕ) → result ≢ Ending.ReadFault word }
+    ensures usage { result ≢ Ending.Usage }
+    ensures write { result ≡ Ending.WriteFault → Rose (K.faults out.old) (K.faults out.new) }
+{
+    let changes = match import(alloc, bytes) {
+        Ok(changes) => changes,
+        Err(refusal) => return Ending::of_refusal(refusal),
+    };
+    let file = match read_events(alloc, lines) {
+        Ok(file) => file,
+        Err(refusal) => return Ending::of_script(refusal),
+    };
+    match program_of(alloc, &changes) {
+        Ok(program) => play_on(alloc, program, &file, out),
+        Err(_) => Ending::Memory,
+    }
+}
+
+// The clauses are those of the record `PlayRuns`, field by field, which says what each means.
+fn run_on_files<C: Cabinet, K: Sink>(
+    alloc: Global,
+    file: &str,
+    events: &str,
+    files: &mut C,
+    out: &mut K,
+) -> Ending
+    ensures done { result ≡ Ending.Done → (bytes lines : List ℕ) → C.held files.old file.now ≡ Some bytes → C.held files.old events.now ≡ Some lines
+        → (changes : List Change) × (script : Events) × (text : List ℕ) × (import_of bytes ≡ Ok changes) × (events_of lines ≡ Ok script)
+        × IsPlayed (applied_all [] changes) script text × Appends (K.contents out.old) (K.contents out.new) text }
+    ensures complete { (bytes lines : List ℕ) (changes : List Change) (script : Events) → C.held files.old file.now ≡ Some bytes
+        → C.held files.old events.now ≡ Some lines → length bytes ≤ MAX_FILE → length lines ≤ MAX_FILE → import_of bytes ≡ Ok changes
+        → events_of lines ≡ Ok script → first_unplayed script.lines ≡ None → (Rose (C.faults files.old) (C.faults files.new) → ⊥)
+        → (Rose (K.faults out.old) (K.faults out.new) → ⊥) → IsDoneOrMemory result }
+    ensures within { (bytes lines : List ℕ) → C.held files.old file.now ≡ Some bytes → C.held files.old events.now ≡ Some lines
+        → length bytes ≤ MAX_FILE → length lines ≤ MAX_FILE → PlayEnds (K.contents out.old) (K.contents out.new) bytes lines result }
+    ensures above { (bytes : List ℕ) → C.held files.old file.now ≡ Some bytes → MAX_FILE < length bytes → EndsAbove MAX_FILE result }
+    ensures events_above { (bytes lines : List ℕ) → C.held files.old file.now ≡ Some bytes → C.held files.old events.now ≡ Some lines
+        → length bytes ≤ MAX_FILE → MAX_FILE < length lines → EndsAbove MAX_FILE result }
+    ensures sink { KeepsSink result out.old out.new }
+    ensures usage { result ≢ Ending.Usage }
+    ensures read { (word : ℕ) → result ≡ Ending.ReadFault word → ((word ≡ 1) ⊎ (word ≡ 2)) × Rose (C.faults files.old) (C.faults files.new) }
+    ensures write { result ≡ Ending.WriteFault → Rose (K.faults out.old) (K.faults out.new) }
+{
+    let bytes = match files.fetch(alloc, file, MAX_FILE) {
+        Ok(bytes) => bytes,
+        Err(FetchError::Failed) => return Ending::ReadFault { word: 1 },
+        Err(FetchError::TooLong) => {
+            return Ending::TooLarge {
+                what: What::FileBytes,
+                count: MAX_FILE,
+            };
+        }
+        Err(FetchError::OutOfMemory) => return Ending::Memory,
+    };
+    match files.fetch(alloc, events, MAX_FILE) {
+        Ok(lines) => play_bytes(alloc, &bytes, &lines, out),
+        Err(FetchError::Failed) => Ending::ReadFault { word: 2 },
+        Err(FetchError::TooLong) => Ending::TooLarge {
+            what: What::FileBytes,
+            count: MAX_FILE,
+        },
+        Err(FetchError::OutOfMemory) => Ending::Memory,
+    }
+}
+
+/// Runs `play` on a file and an event file.
+pub(crate) fn run_play<C: Cabinet, K: Sink>(
+    alloc: Global,
+    file: &str,
+    events: &str,
+    files: &mut C,
+    out: &mut K,
+) -> Ending
+    ensures runs { PlayRuns C.held C.faults K.contents K.faults file.now events.now files.old files.new out.old out.new result }
+    ensures sink { KeepsSink result out.old out.new }
+    ensures usage { result ≢ Ending.Usage }
+    ensures write { result ≡ Ending.WriteFault → Rose (K.faults out.old) (K.faults out.new) }
+{
+    run_on_files(alloc, file, events, files, out)
+}

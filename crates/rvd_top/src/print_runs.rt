@@ -1,0 +1,87 @@
+ghost use Rattle.std.specs.Prelude.{◌≡◌, ◌≢◌, ◌<◌, ◌≤◌, ℕ, List, Some, Ok, length};
+ghost use Rattle.std.specs.Io.KnownBytes.{Appends};
+ghost use Rattle.rvd_io.specs.Causes.{Rose};
+ghost use Rattle.rvd_fact.specs.declared.cells.Change.{Change};
+ghost use Rattle.rvd_elf.specs.Import.{import_of};
+ghost use Rattle.rvd_top.specs.Texts.{text_of};
+ghost use Rattle.rvd_top.specs.Runs.{PrintRuns};
+ghost use Rattle.rvd_top.specs.Endings.{Ends, EndsAbove, IsDoneOrMemory, KeepsSink, Prints};
+
+use crate::endings::Ending;
+use crate::runs::MAX_FILE;
+use crate::texts::push_text;
+use crate::words::Print;
+use rvd_elf::import;
+use rvd_fact::What;
+use rvd_io::{Cabinet, FetchError, PutError, Sink, put_all};
+use std::alloc::Global;
+
+// Imports the bytes of a file and puts the text of its facts.
+fn print_file<K: Sink>(alloc: Global, print: Print, bytes: &[u8], out: &mut K) -> Ending
+    ensures prints { Prints (K.contents out.old) (K.contents out.new) print (import_of bytes.now) result }
+    ensures sink { KeepsSink result out.old out.new }
+    ensures read { (word : ℕ) → result ≢ Ending.ReadFault word }
+    ensures usage { result ≢ Ending.Usage }
+    ensures write { result ≡ Ending.WriteFault → Rose (K.faults out.old) (K.faults out.new) }
+{
+    let changes = match import(alloc, bytes) {
+        Ok(changes) => changes,
+        Err(refusal) => return Ending::of_refusal(refusal),
+    };
+    let mut text = Vec::new(alloc);
+    if push_text(alloc, print, &changes, &mut text).is_err() {
+        return Ending::Memory;
+    }
+    match put_all(out, &text) {
+        Ok(()) => Ending::Done,
+        Err(PutError::Failed) => Ending::WriteFault,
+    }
+}
+
+// The clauses are those of the record `PrintRuns`, field by field, which says what each means.
+fn run_on_file<C: Cabinet, K: Sink>(
+    alloc: Global,
+    print: Print,
+    file: &str,
+    files: &mut C,
+    out: &mut K,
+) -> Ending
+    ensures done { result ≡ Ending.Done → (bytes : List ℕ) → C.held files.old file.now ≡ Some bytes → (changes : List Change)
+        × (import_of bytes ≡ Ok changes) × Appends (K.contents out.old) (K.contents out.new) (text_of print changes) }
+    ensures complete { (bytes : List ℕ) (changes : List Change) → C.held files.old file.now ≡ Some bytes → length bytes ≤ MAX_FILE
+        → import_of bytes ≡ Ok changes → (Rose (C.faults files.old) (C.faults files.new) → ⊥)
+        → (Rose (K.faults out.old) (K.faults out.new) → ⊥) → IsDoneOrMemory result }
+    ensures within { (bytes : List ℕ) → C.held files.old file.now ≡ Some bytes → length bytes ≤ MAX_FILE
+        → Ends (K.contents out.old) (K.contents out.new) print bytes result }
+    ensures above { (bytes : List ℕ) → C.held files.old file.now ≡ Some bytes → MAX_FILE < length bytes → EndsAbove MAX_FILE result }
+    ensures sink { KeepsSink result out.old out.new }
+    ensures usage { result ≢ Ending.Usage }
+    ensures read { (word : ℕ) → result ≡ Ending.ReadFault word → (word ≡ 1) × Rose (C.faults files.old) (C.faults files.new) }
+    ensures write { result ≡ Ending.WriteFault → Rose (K.faults out.old) (K.faults out.new) }
+{
+    match files.fetch(alloc, file, MAX_FILE) {
+        Ok(bytes) => print_file(alloc, print, &bytes, out),
+        Err(FetchError::Failed) => Ending::ReadFault { word: 1 },
+        Err(FetchError::TooLong) => Ending::TooLarge {
+            what: What::FileBytes,
+            count: MAX_FILE,
+        },
+        Err(FetchError::OutOfMemory) => Ending::Memory,
+    }
+}
+
+/// Runs `show` or `list` on a file.
+pub(crate) fn run_print<C: Cabinet, K: Sink>(
+    alloc: Global,
+    print: Print,
+    file: &str,
+    files: &mut C,
+    out: &mut K,
+) -> Ending
+    ensures runs { PrintRuns C.held C.faults K.contents K.faults print file.now files.old files.new out.old out.new result }
+    ensures sink { KeepsSink result out.old out.new }
+    ensures usage { result ≢ Ending.Usage }
+    ensures write { result ≡ Ending.WriteFault → Rose (K.faults out.old) (K.faults out.new) }
+{
+    run_on_file(alloc, print, file, files, out)
+}
