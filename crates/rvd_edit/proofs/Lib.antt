@@ -1,0 +1,5 @@
+pub mod StepLemmas
+pub mod FirstSlot
+pub mod FurtherRefs
+pub mod BytesLength
+mod WorkedRows
