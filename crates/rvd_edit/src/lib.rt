@@ -17,9 +17,11 @@
 mod changing;
 mod edit_error;
 mod edits;
+mod laws;
 mod slots;
 mod spaces;
 
 pub use edit_error::EditError;
 pub use edits::changes_of;
+pub use laws::{edits_fit, edits_set_no_analysis};
 pub use std::alloc::AllocError as OutOfMemory;
