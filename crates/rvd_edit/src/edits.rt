@@ -297,5 +297,7 @@ pub fn changes_of(alloc: Global, program: &Program, edit: &Edit) -> Result<Vec<C
     ensures fits { IfOk result (λ changes. is_edit edit.now ≡ true → Fits program.now changes.items) }
     ensures analysis { IfOk result (λ changes. SetsNoAnalysis changes.items) }
 {
+    // Reading a program tells that it is valid, so that the changes fit it.
+    let _entries = program.entries();
     list_changes(alloc, program, edit)
 }
