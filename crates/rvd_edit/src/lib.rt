@@ -20,6 +20,8 @@ mod edits;
 mod laws;
 mod slots;
 mod spaces;
+#[cfg(test)]
+mod tests;
 
 pub use edit_error::EditError;
 pub use edits::changes_of;
