@@ -1,5 +1,5 @@
 -- The changes of an edit whose parts are in their ranges fit a valid program: `edits_fit`.
-use Rattle.std.proofs.Common.{◌≡◌, ℕ, ◌+◌, ◌-◌, ◌%◌, ◌<◌, ◌≤◌, Bool, true, false, cond, not, ◌&&◌, List, [], ◌∷◌, ◌++◌, Option, Some, None, Result, Ok, Err, refl, sym, ap, ◌∙◌, subst, arith}
+use Rattle.std.proofs.Common.{◌≡◌, ℕ, ◌+◌, ◌-◌, ◌%◌, ◌<◌, ◌≤◌, true, not, ◌&&◌, List, [], ◌∷◌, Option, Some, None, Ok, refl, ap, ◌∙◌, subst, arith}
 use Rattle.std.specs.Prelude.{nat_lt, nat_le, ◌==◌, is_some, length}
 use Rattle.std.specs.Int.{from_le_bytes, w32}
 use Rattle.std.specs.Option.{option_map, ok_or}
@@ -24,13 +24,12 @@ use Rattle.rvd_fact.specs.Valid.{Fits, IsValid, is_address, is_text, is_whole, s
 use Rattle.rvd_fact.proofs.Validity.{cell_at_other}
 use Rattle.rvd_program.specs.Checks.{agrees, is_word, may_be}
 use Rattle.rvd_program.proofs.Applying.{fits-append, fits_one, valid_all}
-use Rattle.rvd_event.specs.Edits.{has_body_ranges, is_datum, is_edit, is_name, is_releasable, is_removable}
-use Rattle.rvd_event.specs.declared.edits.Edit.{Edit}
+use Rattle.rvd_event.specs.Edits.{has_body_ranges, is_datum, is_name, is_releasable, is_removable}
 use Rattle.rvd_event.specs.declared.edits.Edit.TheVariants.{Block, Mark, Func, Body, Label, Ref, Comment, Bookmark, Code, Datum, Clear, Remove, Release}
 use Rattle.rvd_event.specs.declared.edits.EditRefusal.{EditRefusal}
 use Rattle.rvd_event.specs.declared.edits.EditRefusal.TheVariants.{BlockOverlap, LeavesSpace, NoBytes, Overlap}
 use Rattle.rvd_edit.specs.Slots.{analyzer_slots, slot_key, slots}
-use Rattle.rvd_edit.specs.Spaces.{addresses, first_met, stored}
+use Rattle.rvd_edit.specs.Spaces.{addresses, first_met}
 use Rattle.rvd_edit.specs.Changes.{dropped, further, further_of_code, further_of_unit, further_refs, left_behind, left_of, of_analyst, removed, set}
 use Rattle.rvd_edit.specs.Edits.{edit_of, further_of_fact}
 use Rattle.rvd_edit.specs.Laws.{FitsLaw}

@@ -1,6 +1,6 @@
 -- A walk over the 64 slots of an address that looks for the lowest one that passes a test. Use `passed`, `found` and
 -- `none_left` for a loop that goes from slot to slot, and `first_slot-passes` for what the slot is.
-use Rattle.std.proofs.Common.{◌≡◌, ℕ, zero, suc, ◌+◌, ◌-◌, ◌<◌, ◌≤◌, Bool, true, false, cond, Option, Some, None, refl, sym, ap, ◌∙◌, subst, arith, inl, inr}
+use Rattle.std.proofs.Common.{◌≡◌, ℕ, zero, suc, ◌+◌, ◌-◌, ◌<◌, ◌≤◌, Bool, true, false, cond, Some, None, refl, sym, ap, ◌∙◌, arith, inl, inr}
 use Rattle.std.proofs.lemmas.Bool.{cases_Bool}
 use Rattle.rvd_edit.specs.Slots.{first_slot}
 

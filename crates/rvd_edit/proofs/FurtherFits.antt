@@ -1,13 +1,12 @@
 -- What analysis made and goes by an analyst's word fits: `further_fits` for one key, `further_refs-fits` for the slots of an
 -- address. They are read on a program S, and go on another one, T, that has the same cells at their keys.
-use Rattle.std.proofs.Common.{◌≡◌, ℕ, zero, suc, ◌<◌, Bool, true, false, cond, List, [], ◌∷◌, ◌++◌, Option, Some, None, refl, sym, ap, ◌∙◌, arith}
+use Rattle.std.proofs.Common.{◌≡◌, ℕ, zero, suc, ◌<◌, List, [], ◌∷◌, None, refl, ap, ◌∙◌, arith}
 use Rattle.std.proofs.lemmas.Bool.{cond_both}
 use Rattle.rvd_fact.specs.declared.keys.Key.{Key}
 use Rattle.rvd_fact.specs.declared.keys.Kind.TheVariants as kind
-use Rattle.rvd_fact.specs.declared.cells.Cell.{Cell}
 use Rattle.rvd_fact.specs.declared.cells.Change.{Change}
 use Rattle.rvd_fact.specs.Order.{rank}
-use Rattle.rvd_fact.specs.Program.{Program, cell_at, placed, applied_all}
+use Rattle.rvd_fact.specs.Program.{Program, cell_at, applied_all}
 use Rattle.rvd_fact.specs.Valid.{IsValid, Fits}
 use Rattle.rvd_fact.proofs.Validity.{cell_at_other}
 use Rattle.rvd_program.proofs.Applying.{applied_all-append, fits-append, fits_one, valid_all}

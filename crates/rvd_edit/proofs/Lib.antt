@@ -10,5 +10,6 @@ pub mod NothingMet
 pub mod NewUnits
 pub mod NewBlocks
 pub mod EditsFit
+pub mod FirstMet
 pub mod Given
 mod WorkedRows

@@ -3,14 +3,13 @@ use Rattle.std.proofs.Common.{◌≡◌, ℕ, ◌+◌, ◌<◌, ◌≤◌, Bool,
 use Rattle.std.specs.Prelude.{nat_lt, nat_le}
 use Rattle.std.specs.Option.{option_map, option_and_then}
 use Rattle.std.specs.Int.{from_le_bytes, w32}
-use Rattle.std.proofs.lemmas.Bool.{and_from, and_parts, both_ways, cases_eq, cases_lt, false_from_ne_true, leb-true, lt-ltb, ltb-true}
+use Rattle.std.proofs.lemmas.Bool.{and_from, and_parts, both_ways, cases_lt, false_from_ne_true, leb-true, lt-ltb, ltb-true}
 use Rattle.std.proofs.lemmas.Bool.Decides.{nat_tests}
 use Rattle.rvd_fact.specs.declared.keys.Key.{Key}
 use Rattle.rvd_fact.specs.declared.keys.Kind.TheVariants as kind
 use Rattle.rvd_fact.specs.declared.cells.Cell.{Cell}
 use Rattle.rvd_fact.specs.declared.values.Perm.{Perm}
 use Rattle.rvd_fact.specs.declared.values.Source.{Source}
-use Rattle.rvd_fact.specs.declared.values.Value.{Value}
 use Rattle.rvd_fact.specs.declared.values.Value.TheVariants.{Block, Code}
 use Rattle.rvd_fact.specs.Order.{rank}
 use Rattle.rvd_fact.specs.Program.{Program, cell_at, placed}
@@ -24,7 +23,7 @@ use Rattle.rvd_program.proofs.Lengths.{some_of}
 use Rattle.rvd_program.proofs.Spaces.{apart_placed}
 use Rattle.rvd_edit.specs.Changes.{of_analyst}
 use Rattle.rvd_edit.specs.Spaces.{first_met, meets}
-use Rattle.rvd_edit.proofs.NothingMet.{Home, free_there, met_none}
+use Rattle.rvd_edit.proofs.NothingMet.{free_there, met_none}
 
 same_own : (c d : Cell) → Some c ≡ Some d → c ≡ d
 same_own c d h = cc

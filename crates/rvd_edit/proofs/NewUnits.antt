@@ -1,7 +1,7 @@
 -- A unit that lies in a block, meets no other unit and has the word that is there may be put into a valid program:
 -- `valid_new_unit`.
-use Rattle.std.proofs.Common.{◌≡◌, ℕ, ◌+◌, ◌<◌, ◌≤◌, Bool, true, false, not, ◌&&◌, Option, Some, None, Ok, refl, sym, ap, ◌∙◌, subst, arith}
-use Rattle.std.specs.Prelude.{nat_lt, nat_le, ◌==◌}
+use Rattle.std.proofs.Common.{◌≡◌, ℕ, ◌+◌, ◌<◌, true, false, ◌&&◌, Option, Some, None, refl, sym, ap, ◌∙◌, arith}
+use Rattle.std.specs.Prelude.{nat_lt, nat_le}
 use Rattle.std.specs.List.{list_any}
 use Rattle.std.specs.Option.{option_map, option_and_then}
 use Rattle.std.specs.Int.{from_le_bytes, w32}
@@ -16,7 +16,7 @@ use Rattle.rvd_fact.specs.Valid.{IsValid, block_span, span, suits}
 use Rattle.rvd_fact.proofs.Placing.{first-placed}
 use Rattle.rvd_fact.proofs.Scans.{scanned}
 use Rattle.rvd_fact.proofs.Validity.{cell_at_other, no_surround}
-use Rattle.rvd_program.specs.Checks.{agrees, encloses, hangs, is_free, may_be, units_stand}
+use Rattle.rvd_program.specs.Checks.{agrees, encloses, hangs, is_free, may_be}
 use Rattle.rvd_program.proofs.Deciding.{valid_from}
 use Rattle.rvd_program.proofs.Lengths.{some_of}
 use Rattle.rvd_edit.specs.Changes.{of_analyst}

@@ -1,15 +1,15 @@
 -- What it says that nothing is met: no cell meets the range (`met_none`), so that what is put there has its bytes alone
 -- (`free_there`). `has_room` gives the block that a range lies in.
-use Rattle.std.proofs.Common.{◌≡◌, ℕ, ◌+◌, ◌-◌, ◌<◌, ◌≤◌, Bool, true, false, not, cond, ◌&&◌, ◌||◌, [], ◌∷◌, Option, Some, None, Ok, refl, sym, ap, ◌∙◌, subst, inl, inr, arith}
+use Rattle.std.proofs.Common.{◌≡◌, ℕ, ◌+◌, ◌-◌, ◌<◌, ◌≤◌, Bool, true, false, not, cond, ◌&&◌, ◌||◌, [], ◌∷◌, Option, Some, None, Ok, refl, ap, ◌∙◌, inl, inr, arith}
 use Rattle.std.specs.Prelude.{nat_lt, nat_le, ◌==◌, find as first_where}
 use Rattle.std.specs.List.{list_any}
 use Rattle.std.specs.Option.{option_map, option_map_or}
-use Rattle.std.proofs.lemmas.Bool.{and_parts, and_from, and_left, and_right, both_ways, cases_Bool, eq-eqb, false_from_ne_true, leb-true, not_from_false, not_from_true, or_cases, ltb-true}
+use Rattle.std.proofs.lemmas.Bool.{and_parts, and_left, and_right, both_ways, eq-eqb, false_from_ne_true, leb-true, not_from_false, not_from_true, or_cases}
 use Rattle.rvd_fact.specs.declared.keys.Key.{Key}
 use Rattle.rvd_fact.specs.declared.cells.Cell.{Cell}
 use Rattle.rvd_fact.specs.declared.values.Value.{Value}
 use Rattle.rvd_fact.specs.Program.{Program, cell_at, placed}
-use Rattle.rvd_fact.specs.Memory.{block, surrounds}
+use Rattle.rvd_fact.specs.Memory.{surrounds}
 use Rattle.rvd_fact.specs.Valid.{IsValid, block_span}
 use Rattle.rvd_fact.proofs.Placing.{Fails, any-placed}
 use Rattle.rvd_fact.proofs.Scans.{scanned}
@@ -24,7 +24,7 @@ nothing_met None refusal e = refl
 nothing_met (Some start) refusal e = absurd cc
 
 -- where none is the first, none passes
-none_passes : (p : Key × Cell → Bool) (S : Program) → option_map (λ (e : Key × Cell). e.0.at) (first_where p S) ≡ None → list_any p S ≡ false
+pub none_passes : (p : Key × Cell → Bool) (S : Program) → option_map (λ (e : Key × Cell). e.0.at) (first_where p S) ≡ None → list_any p S ≡ false
 none_passes p [] h = refl
 none_passes p (e ∷ S) h = elim (p e) as (λ b. option_map (λ (x : Key × Cell). x.0.at) (cond b (Some e) (first_where p S)) ≡ None → (b || list_any p S) ≡ false) [
   | true ↦ λ h. absurd cc

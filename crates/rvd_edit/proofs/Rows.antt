@@ -1,6 +1,6 @@
 -- What an edit that is not refused passed, row by row, and which changes it makes. Use one of these for whatever is shown
 -- of an edit's changes.
-use Rattle.std.proofs.Common.{◌≡◌, ℕ, ◌-◌, List, [], ◌∷◌, ◌++◌, Option, Some, None, Result, Ok, Err, refl, sym, ap, ◌∙◌}
+use Rattle.std.proofs.Common.{◌≡◌, ℕ, ◌-◌, List, [], ◌∷◌, Option, Some, None, Ok, ap}
 use Rattle.std.specs.Int.{from_le_bytes, w32}
 use Rattle.rvd_fact.specs.declared.keys.Key.{Key}
 use Rattle.rvd_fact.specs.declared.keys.Kind.{Kind}
@@ -13,8 +13,6 @@ use Rattle.rvd_fact.specs.declared.values.Value.{Value}
 use Rattle.rvd_fact.specs.declared.values.Value.TheVariants as value
 use Rattle.rvd_fact.specs.Program.{Program}
 use Rattle.rvd_fact.specs.Memory.{key_of, block_key, unit_key, form_len}
-use Rattle.rvd_event.specs.declared.edits.EditRefusal.{EditRefusal}
-use Rattle.rvd_edit.specs.Steps.{◌>>=◌, ◌>>◌}
 use Rattle.rvd_edit.specs.Slots.{slots, analyzer_slots, slot_key, free_slot, has_name, has_target, slot_with}
 use Rattle.rvd_edit.specs.Spaces.{aligned, gone_there, in_memory, in_one_block, in_space, is_decoded, no_block_met, no_unit_met, not_there, one_block_more, stored, there}
 use Rattle.rvd_edit.specs.Changes.{set, dropped, removed, further_of_unit}

@@ -1,19 +1,18 @@
 -- A change at a key of no block that leaves nothing with a length there keeps a program valid: `valid_without_length`.
 -- That is a change of all kinds of facts but blocks and units, and of a unit that goes.
-use Rattle.std.proofs.Common.{◌≡◌, ℕ, Bool, true, false, not, cond, ◌&&◌, [], ◌∷◌, Option, Some, None, refl, sym, ap, ◌∙◌, inl, inr}
+use Rattle.std.proofs.Common.{◌≡◌, ℕ, true, false, [], ◌∷◌, Option, Some, None, refl, ap, ◌∙◌}
 use Rattle.std.specs.Prelude.{nat_lt, ◌==◌}
 use Rattle.std.specs.List.{list_any}
-use Rattle.std.proofs.lemmas.Bool.{and_from, and_left, and_parts, cond-false, not_from_false, or_from, ne_eqb}
-use Rattle.rvd_fact.specs.declared.keys.Kind.{Kind}
+use Rattle.std.proofs.lemmas.Bool.{and_from, and_left, cond-false, not_from_false, or_from, ne_eqb}
 use Rattle.rvd_fact.specs.declared.keys.Key.{Key}
 use Rattle.rvd_fact.specs.declared.cells.Cell.{Cell}
 use Rattle.rvd_fact.specs.declared.values.Value.{Value}
 use Rattle.rvd_fact.specs.Order.{rank}
-use Rattle.rvd_fact.specs.Program.{Program, cell_at, placed}
+use Rattle.rvd_fact.specs.Program.{Program, placed}
 use Rattle.rvd_fact.specs.Memory.{unit_len, block_len}
 use Rattle.rvd_fact.specs.Valid.{IsValid, is_address, is_of, is_whole, may_stand, span, suits, top_sub}
 use Rattle.std.specs.Prelude.{nat_le}
-use Rattle.rvd_program.specs.Checks.{crowds, hangs_at, is_free, may_be, stays_valid, units_stand}
+use Rattle.rvd_program.specs.Checks.{crowds, hangs_at, is_free, may_be}
 use Rattle.rvd_program.proofs.Deciding.{valid_from}
 
 pub suits_from : (k : Key) (c : Cell) → is_of k.kind c.value ≡ true → is_address k.at ≡ true → nat_le k.sub (top_sub k.kind) ≡ true → is_whole k.at c.value ≡ true → may_stand c.source c.value ≡ true → suits k c ≡ true

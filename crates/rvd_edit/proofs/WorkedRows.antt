@@ -4,13 +4,13 @@ use Rattle.rvd_fact.specs.declared.keys.Kind.TheVariants as kind
 use Rattle.rvd_fact.specs.declared.cells.Cell.{Cell}
 use Rattle.rvd_fact.specs.declared.values.Value.TheVariants as value
 use Rattle.rvd_fact.specs.declared.values.Source.TheVariants.{Analysis, Imported, UserDefined}
-use Rattle.rvd_fact.specs.declared.values.RefClass.TheVariants.{Call, Jump}
+use Rattle.rvd_fact.specs.declared.values.RefClass.TheVariants.{Jump}
 use Rattle.rvd_fact.specs.declared.values.Form.TheVariants.{Byte, Word}
 use Rattle.rvd_fact.specs.Program.{Program, applied_all}
 use Rattle.rvd_fact.specs.Memory.{unit_key, func_key, block_key, key_of}
 use Rattle.rvd_event.specs.declared.edits.Edit.TheVariants.{Func, Code, Datum, Clear}
 use Rattle.rvd_event.specs.declared.edits.EditRefusal.TheVariants.{Unaligned, NoBlock, Present}
-use Rattle.rvd_edit.specs.Slots.{slot_key, first_slot}
+use Rattle.rvd_edit.specs.Slots.{slot_key}
 use Rattle.rvd_edit.specs.Changes.{further_refs}
 use Rattle.rvd_edit.specs.Edits.{edit_of, has_memory, data_edit, code_edit, entry_edit, clear_edit}
 

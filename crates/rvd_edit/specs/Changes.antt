@@ -7,7 +7,7 @@ use Rattle.rvd_fact.specs.declared.keys.Kind.TheVariants as kind
 use Rattle.rvd_fact.specs.declared.cells.Cell.{Cell}
 use Rattle.rvd_fact.specs.declared.cells.Change.{Change}
 use Rattle.rvd_fact.specs.declared.values.Source.{Source}
-use Rattle.rvd_fact.specs.declared.values.Source.TheVariants.{Default, Analysis, Imported, UserDefined}
+use Rattle.rvd_fact.specs.declared.values.Source.TheVariants.{Analysis, UserDefined}
 use Rattle.rvd_fact.specs.declared.values.Value.{Value}
 use Rattle.rvd_fact.specs.declared.values.Value.TheVariants.{Gone}
 use Rattle.rvd_fact.specs.Program.{Program, cell_at}

@@ -5,16 +5,15 @@ use Rattle.std.specs.Int.{from_le_bytes, w32}
 use Rattle.rvd_fact.specs.declared.keys.Key.{Key}
 use Rattle.rvd_fact.specs.declared.keys.Kind.{Kind}
 use Rattle.rvd_fact.specs.declared.keys.Kind.TheVariants as kind
-use Rattle.rvd_fact.specs.declared.cells.Cell.{Cell}
 use Rattle.rvd_fact.specs.declared.cells.Change.{Change}
 use Rattle.rvd_fact.specs.declared.values.Form.{Form}
-use Rattle.rvd_fact.specs.declared.values.Form.TheVariants.{Byte, Half, Word, Str}
+use Rattle.rvd_fact.specs.declared.values.Form.TheVariants.{Half, Word, Str}
 use Rattle.rvd_fact.specs.declared.values.Perm.{Perm}
 use Rattle.rvd_fact.specs.declared.values.RefClass.{RefClass}
 use Rattle.rvd_fact.specs.declared.values.Value.{Value}
 use Rattle.rvd_fact.specs.declared.values.Value.TheVariants as value
 use Rattle.rvd_fact.specs.Order.{rank}
-use Rattle.rvd_fact.specs.Program.{Program, cell_at}
+use Rattle.rvd_fact.specs.Program.{Program}
 use Rattle.rvd_fact.specs.Memory.{key_of, block_key, func_key, unit_key, form_len}
 use Rattle.rvd_event.specs.declared.edits.Edit.{Edit}
 use Rattle.rvd_event.specs.declared.edits.Edit.TheVariants.{Block, Mark, Func, Body, Label, Ref, Comment, Bookmark, Code, Datum, Clear, Remove, Release}

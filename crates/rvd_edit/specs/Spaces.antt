@@ -1,7 +1,7 @@
 -- The tests of an edit that speak of memory and of cells: where an address lies, which bytes are there, what meets a
 -- range, and what stands at a key. Each gives its refusal where it fails. Use `room` for how far a block reaches, and
 -- `first_met` for the lowest unit or block that meets a range.
-use Rattle.std.specs.Prelude.{ℕ, ◌+◌, ◌-◌, ◌%◌, Bool, true, false, ◌&&◌, nat_lt, nat_le, ◌==◌, List, find, Option, Some, None, is_some, Result, Ok, Err}
+use Rattle.std.specs.Prelude.{ℕ, ◌+◌, ◌-◌, ◌%◌, Bool, false, ◌&&◌, nat_lt, nat_le, ◌==◌, List, find, Option, Some, None, is_some, Result, Ok, Err}
 use Rattle.std.specs.Option.{option_map, option_map_or, ok_or}
 use Rattle.std.specs.List.{count_by}
 use Rattle.rvd_decode.specs.Table.{instruction}

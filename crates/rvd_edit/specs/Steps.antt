@@ -1,6 +1,6 @@
 -- Steps of an edit, of which the first refusal decides. Use `do` blocks over `◌>>=◌`, `require` and `forbid` for single
 -- tests, and `Gives` for what a function returns where the steps give changes.
-use Rattle.std.specs.Prelude.{◌≡◌, Bool, if◌then◌else◌, List, Option, Some, None, Result, Ok, Err, Vec}
+use Rattle.std.specs.Prelude.{◌≡◌, Bool, if◌then◌else◌, List, Result, Ok, Err, Vec}
 use Rattle.std.specs.declared.alloc.Global.{Global}
 use Rattle.rvd_fact.specs.declared.cells.Change.{Change}
 use Rattle.rvd_event.specs.declared.edits.EditRefusal.{EditRefusal}

@@ -1,4 +1,4 @@
-use Rattle.std.proofs.Common.{◌∙◌, sym, ap, ℕ, arith}
+use Rattle.std.proofs.Common.{◌∙◌, sym, ap}
 use Rattle.rvd_fact.specs.declared.keys.Kind.TheVariants as kind
 use Rattle.rvd_fact.specs.Program.{cell_at}
 use Rattle.rvd_edit.specs.Slots.{has_name, slot_key}
