@@ -1,4 +1,6 @@
+pub mod EditLines
 pub mod Lines
-pub mod Words
-pub mod Steps
 pub mod Parts
+pub mod RangeLines
+pub mod Steps
+pub mod Words

@@ -1,10 +1,10 @@
 -- The parts of a line that one word gives: addresses, decimal numbers, quoted texts, and fixed words by their lists. Each
 -- reader of a word gives the part or the cause for which it is none.
-use Rattle.std.specs.Prelude.{ℕ, Bool, true, false, ◌&&◌, nat_lt, nat_le, ◌==◌, List, [], ◌∷◌, length, Option, Some, None, Result, Ok, Err, if◌then◌else◌, codes}
+use Rattle.std.specs.Prelude.{◌≡◌, ℕ, ◌+◌, ◌*◌, ◌^◌, ◌≤◌, Bool, true, false, ◌&&◌, nat_lt, nat_le, ◌==◌, List, [], ◌∷◌, length, Option, Some, None, Result, Ok, Err, if◌then◌else◌, codes}
 use Rattle.std.specs.Option.{option_map}
 use Rattle.std.specs.List.{list_all}
 use Rattle.std.specs.Str.{bytes_eq}
-use Rattle.std.specs.Char.{is_ascii_digit}
+use Rattle.std.specs.Char.{digit_value, is_ascii_digit}
 use Rattle.std.specs.Str.Parse.{digits_value}
 use Rattle.rvd_text.specs.Hex.{hex_of}
 use Rattle.rvd_text.specs.Quoted.{text_of}
@@ -126,3 +126,13 @@ bookmark_types =
     ∷ (codes "warning", 3)
     ∷ (codes "error", 4)
     ∷ []
+
+-- the number that digits write, or None where it takes more than 64 bits
+abbrev pub IsValue : List ℕ → Option ℕ → Type 0
+IsValue digits None = 2 ^ 64 ≤ digits_value 10 digits
+IsValue digits (Some n) = n ≡ digits_value 10 digits
+
+-- a number with one more digit, or None where it takes more than 64 bits
+abbrev pub IsAppended : ℕ → ℕ → Option ℕ → Type 0
+IsAppended number digit None = 2 ^ 64 ≤ number * 10 + digit_value digit
+IsAppended number digit (Some n) = n ≡ number * 10 + digit_value digit

@@ -52,3 +52,9 @@ abbrev pub Tells : {A : Type 0} → Result A PartError → Result A TextCause �
 Tells (Ok x) whole = whole ≡ Ok x
 Tells (Err (Cause cause)) whole = whole ≡ Err cause
 Tells (Err OutOfMemory) whole = Unit {0}
+
+-- what a value that is written through a reference is afterwards, unless memory runs out
+abbrev pub Leaves : {A : Type 0} → A → Result (Unit {0}) PartError → Result A TextCause → Type 0
+Leaves new (Ok u) whole = whole ≡ Ok new
+Leaves new (Err (Cause cause)) whole = whole ≡ Err cause
+Leaves new (Err OutOfMemory) whole = Unit {0}

@@ -1,6 +1,11 @@
 //! Reads scripts and event files.
 #![tactic(auto)]
 
+mod edit_lines;
 mod errors;
 mod fixed_words;
+mod parts;
+mod range_lines;
+mod script_lines;
+mod values;
 mod words;
