@@ -1,2 +1,4 @@
 pub mod WordLemmas
 pub mod Decimals
+pub mod Joins
+pub mod TextLemmas

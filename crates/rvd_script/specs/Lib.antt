@@ -1,4 +1,6 @@
 pub mod EditLines
+pub mod EventLines
+pub mod Legal
 pub mod Lines
 pub mod Parts
 pub mod RangeLines

@@ -3,6 +3,7 @@
 
 mod edit_lines;
 mod errors;
+mod event_lines;
 mod fixed_words;
 mod parts;
 mod range_lines;

@@ -64,7 +64,7 @@ fn some_ranges(alloc: Global, words: &mut Words) -> Result<RangeSet, PartError>
     ensures legal { IfOk result (λ set. is_range_set set ≡ true) }
 {
     let mut set = RangeSet::new(alloc);
-    for _count in 0..MAX_RANGES {
+    for count in 0..MAX_RANGES {
         if words.is_empty() {
             return Ok(set);
         }

@@ -1,5 +1,6 @@
 ghost use Rattle.std.specs.Prelude.{◌≡◌, ◌∷◌, [], ◌<◌, ◌≤◌, ◌≢◌, ◌↔◌, length, take, drop, slice_index, IfSome, IfNone, IsTrue};
 ghost use Rattle.rvd_script.specs.Words.{IsWord, gap_len, next_place, is_empty, is_skipped, word_len, words_of};
+ghost use Rattle.rvd_script.specs.Steps.{finished};
 ghost use Rattle.rvd_script.specs.declared.words.Place.TheVariants.{Gap};
 
 use rvd_fact::TextCause;
@@ -110,6 +111,17 @@ impl<'a> Words<'a> {
             return Err(TextCause::MissingPart);
         }
         Ok(&rest[..len])
+    }
+
+    /// `ExtraPart` where there are more words.
+    pub fn end(&self) -> Result<(), TextCause>
+        ensures { result ≡ finished tt self.now }
+    {
+        if self.is_empty() {
+            Ok(())
+        } else {
+            Err(TextCause::ExtraPart)
+        }
     }
 
     /// Whether there are no more words.

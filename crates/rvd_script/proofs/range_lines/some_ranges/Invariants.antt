@@ -4,8 +4,8 @@ use Rattle.rvd_script.specs.RangeLines.{with_ranges}
 use Rattle.rvd_script.proofs.range_lines.some_ranges.Given as goal
 
 -- the words so far made the set, and those that are left are added to it
-abbrev pub invariant-loop-_count : goal.invariant-loop-_count
-invariant-loop-_count l = record {
-  whole : with_ranges l._count l.set l.words ≡ with_ranges 0 [] l.fn.words;
+abbrev pub invariant-loop-count : goal.invariant-loop-count
+invariant-loop-count l = record {
+  whole : with_ranges l.count l.set l.words ≡ with_ranges 0 [] l.fn.words;
   ranges : AreRanges l.set;
 }

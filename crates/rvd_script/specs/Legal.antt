@@ -1,0 +1,49 @@
+-- What every line that is read keeps: its actor is one of the file's, it asks for what that actor may ask for, and its parts
+-- are in their ranges. Use `IsFile` and `IsScript` as the premises of whatever is done with the lines.
+use Rattle.std.specs.Prelude.{◌≡◌, ℕ, ◌+◌, ◌≤◌, Bool, true, false, ◌&&◌, ◌||◌, nat_lt, nat_le, List, length}
+use Rattle.std.specs.List.{All}
+use Rattle.rvd_fact.specs.Valid.{is_text}
+use Rattle.rvd_event.specs.Edits.{is_edit}
+use Rattle.rvd_event.specs.declared.events.Event.{Event}
+use Rattle.rvd_event.specs.declared.events.Event.TheVariants.{Begin, Edit, Take, Offer, Close}
+use Rattle.rvd_script.specs.declared.script_lines.What1.{What1}
+use Rattle.rvd_script.specs.declared.script_lines.What1.TheVariants.{Call, Ask, Settle}
+use Rattle.rvd_script.specs.declared.script_lines.ScriptLine.{ScriptLine}
+use Rattle.rvd_script.specs.declared.script_lines.EventLine.{EventLine}
+
+-- the number of items of a job
+abbrev pub is_batch : ℕ → Bool
+is_batch n = nat_le 1 n && nat_le n 64
+
+-- a session's event: a text has at most 1,000 bytes, and an edit's parts are in their ranges
+abbrev pub is_session_event : Event → Bool
+is_session_event (Begin text) = is_text text
+is_session_event (Edit edit) = is_edit edit
+is_session_event (Take n) = false
+is_session_event (Offer t) = false
+is_session_event e = true
+
+abbrev pub is_worker_event : Event → Bool
+is_worker_event (Take n) = is_batch n
+is_worker_event (Offer t) = true
+is_worker_event e = false
+
+-- what a session, and what a worker may ask for
+abbrev pub is_session_what : What1 → Bool
+is_session_what (Call event) = is_session_event event
+is_session_what (Ask query) = true
+is_session_what (Settle n) = false
+
+abbrev pub is_worker_what : What1 → Bool
+is_worker_what (Call event) = is_worker_event event
+is_worker_what (Ask query) = false
+is_worker_what (Settle n) = is_batch n
+
+-- what an actor of a file may ask for: sessions have the numbers from 1 on, then come the workers
+abbrev pub is_of_actor : ℕ → ℕ → ℕ → What1 → Bool
+is_of_actor sessions workers actor what =
+    (nat_le 1 actor && (nat_le actor sessions && is_session_what what))
+    || (nat_lt sessions actor && (nat_le actor (sessions + workers) && is_worker_what what))
+
+abbrev pub is_line : ℕ → ℕ → EventLine → Bool
+is_line sessions workers l = is_of_actor sessions workers l.actor l.what
