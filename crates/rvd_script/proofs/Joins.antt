@@ -35,7 +35,10 @@ length-joined (r ∷ rs) f l = elim (nat_lt (r.1 + 1) f) as (λ b. let js = cond
 
 -- how many ranges there are with those of words, where there are some already
 some_length : (words : List (List ℕ)) (n : ℕ) (set s : List (ℕ × ℕ)) (rest : List (List ℕ)) → with_ranges n set words ≡ Ok (s, rest) → 0 < length set → length set ≤ n → n ≤ 64 → (0 < length s) × (length s ≤ 64)
-some_length [] n set s rest e some most small = let same : set ≡ s = cc in let len = ap length same in (omega arith, omega arith)
+some_length [] n set s rest e some most small =
+    let same : (let p : List (ℕ × ℕ) × List (List ℕ) = (set, []) in p) ≡ (s, rest) = cc in
+    let len : length set ≡ length s = ap (λ (p : List (ℕ × ℕ) × List (List ℕ)). length p.0) same in
+    (omega arith, omega arith)
 some_length (w ∷ words) n set s rest e some most small = elim (nat_lt n 64) as (λ b. nat_lt n 64 ≡ b → cond b (with_range set w >>= (λ more. with_ranges (n + 1) more words)) (Err TooLong) ≡ Ok (s, rest) → (0 < length s) × (length s ≤ 64)) [
     | true ↦ λ t f. elim (range_of w) as (λ r. ((r >>= (λ r. Ok (joined set r.0 r.1))) >>= (λ more. with_ranges (n + 1) more words)) ≡ Ok (s, rest) → (0 < length s) × (length s ≤ 64)) [
       | Ok r ↦ λ g.

@@ -5,6 +5,7 @@ mod edit_lines;
 mod errors;
 mod event_lines;
 mod fixed_words;
+mod lines;
 mod parts;
 mod range_lines;
 mod script_lines;
