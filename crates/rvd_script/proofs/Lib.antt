@@ -3,3 +3,5 @@ pub mod Decimals
 pub mod Joins
 pub mod TextLemmas
 pub mod LineLemmas
+pub mod ActorLemmas
+pub mod FileLemmas

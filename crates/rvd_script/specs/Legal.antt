@@ -6,6 +6,9 @@ use Rattle.rvd_fact.specs.Valid.{is_text}
 use Rattle.rvd_event.specs.Edits.{is_edit}
 use Rattle.rvd_event.specs.declared.events.Event.{Event}
 use Rattle.rvd_event.specs.declared.events.Event.TheVariants.{Begin, Edit, Take, Offer, Close}
+use Rattle.rvd_event.specs.declared.queries.Names.{Names}
+use Rattle.rvd_script.specs.declared.actor_lines.Actor.{Actor}
+use Rattle.rvd_script.specs.declared.actor_lines.Actor.TheVariants.{Session, Worker}
 use Rattle.rvd_script.specs.declared.script_lines.What1.{What1}
 use Rattle.rvd_script.specs.declared.script_lines.What1.TheVariants.{Call, Ask, Settle}
 use Rattle.rvd_script.specs.declared.script_lines.ScriptLine.{ScriptLine}
@@ -38,6 +41,15 @@ abbrev pub is_worker_what : What1 → Bool
 is_worker_what (Call event) = is_worker_event event
 is_worker_what (Ask query) = false
 is_worker_what (Settle n) = is_batch n
+
+-- an actor of a file
+abbrev pub IsActor : Names → Actor → Type 0
+IsActor names (Session k) = (1 ≤ k) × (k ≤ names.sessions)
+IsActor names (Worker k) = (1 ≤ k) × (k ≤ names.workers)
+
+abbrev pub is_actor_what : Actor → What1 → Bool
+is_actor_what (Session k) what = is_session_what what
+is_actor_what (Worker k) what = is_worker_what what
 
 -- what an actor of a file may ask for: sessions have the numbers from 1 on, then come the workers
 abbrev pub is_of_actor : ℕ → ℕ → ℕ → What1 → Bool

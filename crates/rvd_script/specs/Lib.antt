@@ -1,5 +1,6 @@
 pub mod EditLines
 pub mod EventLines
+pub mod Files
 pub mod Legal
 pub mod Lines
 pub mod Parts

@@ -3,7 +3,7 @@ ghost use Rattle.rvd_script.specs.declared.errors.PartError.TheVariants as part;
 ghost use Rattle.rvd_script.specs.declared.errors.ScriptError.TheVariants as script;
 
 use rvd_fact::TextCause;
-use std::alloc::AllocError;
+use std::alloc::{AllocError, AllocFailed};
 use thiserror::Error;
 
 /// Why a script or an event file isn't read.
@@ -29,6 +29,14 @@ impl From<AllocError> for ScriptError {
     ghost from_gives = { λ _ e. e ≡ script.OutOfMemory };
 
     fn from(_: AllocError) -> ScriptError {
+        ScriptError::OutOfMemory
+    }
+}
+
+impl<T: Drop> From<AllocFailed<T>> for ScriptError {
+    ghost from_gives = { λ _ e. e ≡ script.OutOfMemory };
+
+    fn from(_: AllocFailed<T>) -> ScriptError {
         ScriptError::OutOfMemory
     }
 }

@@ -100,6 +100,13 @@ impl<'a> Words<'a> {
         Words { rest: line }
     }
 
+    /// The same words.
+    pub fn copy(&self) -> Words<'a>
+        ensures { result ≡ self.now }
+    {
+        Words { rest: self.rest }
+    }
+
     /// The next word, `MissingPart` where there is none.
     pub fn word(&mut self) -> Result<&'a [u8], TextCause>
         ensures { IsWord self.old self.new result }
