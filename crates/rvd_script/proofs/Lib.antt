@@ -5,3 +5,4 @@ pub mod TextLemmas
 pub mod LineLemmas
 pub mod ActorLemmas
 pub mod FileLemmas
+pub mod WorkedRows

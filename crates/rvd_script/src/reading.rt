@@ -183,6 +183,7 @@ fn read_head(lines: &mut Lines) -> Result<Head, ScriptError>
     ensures some { IfOk result (λ h. 1 ≤ h.names.sessions) }
     ensures sessions { IfOk result (λ h. h.names.sessions ≤ 16) }
     ensures workers { IfOk result (λ h. h.names.workers ≤ 8) }
+    ensures first { IfOk result (λ h. 1 ≤ h.next) }
     ensures count { IfOk result (λ h. h.next + length lines.new ≤ 100001) }
 {
     let mut number = 1;

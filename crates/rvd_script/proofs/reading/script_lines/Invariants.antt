@@ -6,13 +6,13 @@ use Rattle.rvd_script.specs.Lines.{lines_of}
 use Rattle.rvd_script.proofs.reading.script_lines.Given as goal
 
 -- the lines so far said what is in the list, and those that are left go behind it
-abbrev pub invariant-loop-out : goal.invariant-loop-out
-invariant-loop-out l = record {
+abbrev pub invariant-loop-line : goal.invariant-loop-line
+invariant-loop-line l = record {
   whole : in_order script_line 1 (lines_of l.bytes) ≡ behind l.out.items (in_order script_line l.number l.lines);
   legal : list_all is_script_line l.out.items ≡ true;
   count : length l.out.items + 1 ≤ l.number;
   number : l.number + length l.lines ≤ 100001;
 }
 
-abbrev pub decreases-loop-out : goal.decreases-loop-out
-decreases-loop-out l = length l.lines
+abbrev pub decreases-loop-line : goal.decreases-loop-line
+decreases-loop-line l = length l.lines
