@@ -1,7 +1,7 @@
 -- What every line that is read keeps: its actor is one of the file's, it asks for what that actor may ask for, and its parts
 -- are in their ranges. Use `IsFile` and `IsScript` as the premises of whatever is done with the lines.
 use Rattle.std.specs.Prelude.{◌≡◌, ℕ, ◌+◌, ◌≤◌, Bool, true, false, ◌&&◌, ◌||◌, nat_lt, nat_le, List, length}
-use Rattle.std.specs.List.{list_all}
+use Rattle.std.specs.List.{All}
 use Rattle.rvd_fact.specs.Valid.{is_text}
 use Rattle.rvd_event.specs.Edits.{is_edit}
 use Rattle.rvd_event.specs.declared.events.Event.{Event}
@@ -67,7 +67,7 @@ is_script_line l = is_session_what l.what
 -- a script: its lines, at most 100,000
 pub record IsScript (script : List ScriptLine) : Type 0 where
   pub count : length script ≤ 100000
-  pub lines : list_all is_script_line script ≡ true
+  pub lines : All (λ l. is_script_line l ≡ true) script
 
 -- what an event file says: how many sessions and workers there are, and its lines
 pub record Events : Type 0 where
@@ -81,4 +81,4 @@ pub record IsFile (events : Events) : Type 0 where
   pub sessions : events.sessions ≤ 16
   pub workers : events.workers ≤ 8
   pub count : length events.lines ≤ 100000
-  pub lines : list_all (is_line events.sessions events.workers) events.lines ≡ true
+  pub lines : All (λ l. is_line events.sessions events.workers l ≡ true) events.lines
