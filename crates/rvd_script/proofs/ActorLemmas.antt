@@ -1,13 +1,12 @@
 -- The actors of an event file. Use `of_actor` for a line that one of them may have.
-use Rattle.std.proofs.Common.{◌≡◌, ℕ, ◌+◌, ◌<◌, ◌≤◌, Bool, true, false, ◌&&◌, ◌||◌, refl, sym, ap, ◌∙◌, subst, arith}
-use Rattle.std.specs.Prelude.{nat_le, nat_lt}
+use Rattle.std.proofs.Common.{◌≡◌, ℕ, ◌+◌, Bool, true, false, ◌||◌, refl, arith}
 use Rattle.std.proofs.lemmas.Bool.{and_from, or_left, le-leb, lt-ltb}
 use Rattle.rvd_event.specs.declared.queries.Names.{Names}
 use Rattle.rvd_script.specs.declared.actor_lines.Actor.{Actor}
 use Rattle.rvd_script.specs.declared.actor_lines.Actor.TheVariants.{Session, Worker}
 use Rattle.rvd_script.specs.declared.script_lines.What1.{What1}
 use Rattle.rvd_script.specs.Files.{actor_number}
-use Rattle.rvd_script.specs.Legal.{IsActor, is_actor_what, is_of_actor, is_worker_what}
+use Rattle.rvd_script.specs.Legal.{IsActor, is_actor_what, is_of_actor}
 
 or_right : (x y : Bool) → y ≡ true → (x || y) ≡ true
 or_right true y h = refl

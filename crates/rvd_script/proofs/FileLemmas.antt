@@ -1,6 +1,6 @@
 -- The lines of a file in their order. Use `line_more` and `line_stops` for a loop that adds what each line says, and
 -- `handed_on` to hand a refusal on.
-use Rattle.std.proofs.Common.{◌≡◌, ℕ, suc, ◌+◌, List, [], ◌∷◌, ◌++◌, Result, Ok, Err, refl, sym, ap, ◌∙◌, append_assoc}
+use Rattle.std.proofs.Common.{◌≡◌, ℕ, ◌+◌, List, ◌∷◌, ◌++◌, Result, Ok, Err, refl, sym, ap, ◌∙◌, append_assoc}
 use Rattle.rvd_script.specs.declared.errors.ScriptError.{ScriptError}
 use Rattle.rvd_script.specs.declared.errors.ScriptError.TheVariants.{TooManyLines, Bad, OutOfMemory}
 use Rattle.rvd_script.specs.Steps.{◌>>=◌}

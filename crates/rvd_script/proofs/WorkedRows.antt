@@ -1,7 +1,7 @@
 -- Lines that the grammar of scripts and event files tells of, computed by the definitions.
-use Rattle.std.proofs.Common.{◌≡◌, ℕ, List, [], ◌∷◌, ◌++◌, Result, Ok, Err, true, refl}
+use Rattle.std.proofs.Common.{◌≡◌, ℕ, List, [], ◌∷◌, ◌++◌, Ok, Err, true, refl}
 use Rattle.std.specs.Prelude.{codes}
-use Rattle.rvd_fact.specs.declared.causes.TextCause.TheVariants.{UnknownWord, MissingPart, ExtraPart, BadAddress, BadNumber, BadText, TooLong}
+use Rattle.rvd_fact.specs.declared.causes.TextCause.TheVariants.{UnknownWord, MissingPart, ExtraPart, BadAddress, BadNumber, BadText}
 use Rattle.rvd_fact.specs.declared.keys.Kind.TheVariants as kind
 use Rattle.rvd_event.specs.declared.edits.Edit.TheVariants as edit
 use Rattle.rvd_event.specs.declared.events.Event.TheVariants as event

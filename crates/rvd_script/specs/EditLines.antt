@@ -1,8 +1,5 @@
 -- The lines that edit. Use `edit_of` for the edit that the words behind an edit's first word make.
-use Rattle.std.specs.Prelude.{◌≡◌, ℕ, true, List, [], ◌∷◌, Result, Ok, Err, codes}
-use Rattle.rvd_fact.specs.declared.causes.TextCause.{TextCause}
-use Rattle.rvd_fact.specs.declared.causes.TextCause.TheVariants.{UnknownWord}
-use Rattle.rvd_fact.specs.declared.keys.Kind.{Kind}
+use Rattle.std.specs.Prelude.{◌≡◌, ℕ, true, List, [], ◌∷◌, Ok, codes}
 use Rattle.rvd_fact.specs.declared.values.Form.{Form}
 use Rattle.rvd_fact.specs.declared.values.Form.TheVariants as form
 use Rattle.rvd_fact.specs.Valid.{top_sub}

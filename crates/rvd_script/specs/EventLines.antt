@@ -1,11 +1,8 @@
 -- The lines of sessions and of workers. Use `session_line` and `worker_line` for what the words of a line call, from the
 -- word on that names the event.
-use Rattle.std.specs.Prelude.{ℕ, ◌<◌, Bool, true, false, List, [], ◌∷◌, Option, Some, None, Result, Ok, Err, if◌then◌else◌, codes}
-use Rattle.std.specs.Option.{option_map}
+use Rattle.std.specs.Prelude.{ℕ, Bool, true, false, List, [], ◌∷◌, Option, Some, None, Result, Ok, if◌then◌else◌, codes}
 use Rattle.std.specs.Str.{bytes_eq}
 use Rattle.rvd_fact.specs.declared.causes.TextCause.{TextCause}
-use Rattle.rvd_fact.specs.declared.causes.TextCause.TheVariants.{UnknownWord}
-use Rattle.rvd_event.specs.declared.events.Event.{Event}
 use Rattle.rvd_event.specs.declared.events.Event.TheVariants as event
 use Rattle.rvd_event.specs.declared.queries.Query.{Query}
 use Rattle.rvd_event.specs.declared.queries.Query.TheVariants as query
@@ -17,7 +14,7 @@ use Rattle.rvd_script.specs.declared.event_lines.QueryWord.{QueryWord}
 use Rattle.rvd_script.specs.declared.event_lines.QueryWord.TheVariants as asked
 use Rattle.rvd_script.specs.declared.event_lines.WorkerWord.{WorkerWord}
 use Rattle.rvd_script.specs.declared.event_lines.WorkerWord.TheVariants as worker
-use Rattle.rvd_script.specs.Steps.{◌>>=◌, Step, finished, given, part}
+use Rattle.rvd_script.specs.Steps.{◌>>=◌, Step, finished, part}
 use Rattle.rvd_script.specs.Parts.{address_of, analyzers, fixed, look_up, number_of, quoted_of}
 use Rattle.rvd_script.specs.EditLines.{edit_of, edit_words}
 

@@ -14,7 +14,7 @@ use Rattle.rvd_script.specs.declared.actor_lines.Actor.TheVariants.{Session, Wor
 use Rattle.rvd_script.specs.declared.reading.Head.{Head}
 use Rattle.rvd_script.specs.Lines.{lines_of}
 use Rattle.rvd_script.specs.Words.{is_skipped, words_of}
-use Rattle.rvd_script.specs.Steps.{◌>>=◌, Step, finished, part}
+use Rattle.rvd_script.specs.Steps.{◌>>=◌, finished, part}
 use Rattle.rvd_script.specs.Parts.{fixed, number_of}
 use Rattle.rvd_script.specs.EventLines.{closing_line, session_line, worker_line}
 use Rattle.rvd_script.specs.Legal.{Events}

@@ -5,7 +5,7 @@ use Rattle.std.specs.List.{All}
 use Rattle.rvd_fact.specs.Valid.{is_text}
 use Rattle.rvd_event.specs.Edits.{is_edit}
 use Rattle.rvd_event.specs.declared.events.Event.{Event}
-use Rattle.rvd_event.specs.declared.events.Event.TheVariants.{Begin, Edit, Take, Offer, Close}
+use Rattle.rvd_event.specs.declared.events.Event.TheVariants.{Begin, Edit, Take, Offer}
 use Rattle.rvd_event.specs.declared.queries.Names.{Names}
 use Rattle.rvd_script.specs.declared.actor_lines.Actor.{Actor}
 use Rattle.rvd_script.specs.declared.actor_lines.Actor.TheVariants.{Session, Worker}

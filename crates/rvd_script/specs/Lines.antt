@@ -1,6 +1,6 @@
 -- The lines of a text file. A line ends with a line feed, the last one perhaps without, and a carriage return directly
 -- before the line feed is no part of the line. Use `lines_of` for the lines in order.
-use Rattle.std.specs.Prelude.{◌≡◌, ℕ, suc, Bool, true, false, ◌&&◌, ◌==◌, List, [], ◌∷◌, drop, Option, Some, None, if◌then◌else◌}
+use Rattle.std.specs.Prelude.{◌≡◌, ℕ, suc, Bool, false, ◌&&◌, ◌==◌, List, [], ◌∷◌, drop, Option, Some, None, if◌then◌else◌}
 use denote.Ref.{Bor}
 
 -- whether a line feed comes first

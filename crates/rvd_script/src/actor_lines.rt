@@ -165,5 +165,9 @@ pub fn event_line(
     let actor = next_actor(words, names)?;
     let what = actor_line(alloc, actor, words)?;
     let number = actor_number(names, actor);
-    Ok(EventLine { line, actor: number, what })
+    Ok(EventLine {
+        line,
+        actor: number,
+        what,
+    })
 }

@@ -14,17 +14,33 @@ fn bad_lines_of_scripts_are_refused(rt: HostRuntime) -> Result<(), Fail> {
         ("an event file's close", "close", TextCause::UnknownWord),
         ("a worker's word", "take 1", TextCause::UnknownWord),
         ("a permission", "block 0 4 wrx", TextCause::UnknownWord),
-        ("a block can't be removed", "remove block 0 0", TextCause::UnknownWord),
+        (
+            "a block can't be removed",
+            "remove block 0 0",
+            TextCause::UnknownWord,
+        ),
         ("no address", "mark", TextCause::MissingPart),
         ("no range", "body 10060", TextCause::MissingPart),
         ("no text", "comment 10054 eol", TextCause::MissingPart),
         ("a word too many", "undo 1", TextCause::ExtraPart),
         ("nine digits", "code 123456789", TextCause::BadAddress),
         ("no byte", "block 10054 0 r-x", TextCause::BadAddress),
-        ("a range from above", "body 10060 5-4", TextCause::BadAddress),
-        ("a slot past the last", "remove symbol 10054 64", TextCause::BadNumber),
+        (
+            "a range from above",
+            "body 10060 5-4",
+            TextCause::BadAddress,
+        ),
+        (
+            "a slot past the last",
+            "remove symbol 10054 64",
+            TextCause::BadNumber,
+        ),
         ("a sign", "data 10054 string +5", TextCause::BadNumber),
-        ("past 64 bits", "data 0 string 18446744073709551617", TextCause::BadNumber),
+        (
+            "past 64 bits",
+            "data 0 string 18446744073709551617",
+            TextCause::BadNumber,
+        ),
         ("an unclosed quote", "begin \"a b", TextCause::BadText),
         ("an empty name", "label 10054 \"\"", TextCause::BadText),
         ("a tab is no space", "mark\t10054", TextCause::UnknownWord),
@@ -45,14 +61,54 @@ fn bad_lines_of_event_files_are_refused(rt: HostRuntime) -> Result<(), Fail> {
         ("no session", "events 0 1", 1, TextCause::BadNumber),
         ("nine workers", "events 1 9", 1, TextCause::BadNumber),
         ("a long head", "events 1 1 1", 1, TextCause::ExtraPart),
-        ("session 0", "events 1 0\ns0 read", 2, TextCause::UnknownWord),
-        ("session 2 of 1", "events 1 0\ns2 read", 2, TextCause::UnknownWord),
-        ("no worker", "events 1 0\nw1 take 1", 2, TextCause::UnknownWord),
-        ("an actor alone", "events 1 0\ns1", 2, TextCause::MissingPart),
-        ("a session takes", "events 1 1\ns1 take 1", 2, TextCause::UnknownWord),
-        ("a worker begins", "events 1 1\nw1 begin \"x\"", 2, TextCause::UnknownWord),
-        ("65 items", "events 1 1\nw1 take 65", 2, TextCause::BadNumber),
-        ("words behind close", "events 1 0\n\ns1 close 1", 3, TextCause::ExtraPart),
+        (
+            "session 0",
+            "events 1 0\ns0 read",
+            2,
+            TextCause::UnknownWord,
+        ),
+        (
+            "session 2 of 1",
+            "events 1 0\ns2 read",
+            2,
+            TextCause::UnknownWord,
+        ),
+        (
+            "no worker",
+            "events 1 0\nw1 take 1",
+            2,
+            TextCause::UnknownWord,
+        ),
+        (
+            "an actor alone",
+            "events 1 0\ns1",
+            2,
+            TextCause::MissingPart,
+        ),
+        (
+            "a session takes",
+            "events 1 1\ns1 take 1",
+            2,
+            TextCause::UnknownWord,
+        ),
+        (
+            "a worker begins",
+            "events 1 1\nw1 begin \"x\"",
+            2,
+            TextCause::UnknownWord,
+        ),
+        (
+            "65 items",
+            "events 1 1\nw1 take 65",
+            2,
+            TextCause::BadNumber,
+        ),
+        (
+            "words behind close",
+            "events 1 0\n\ns1 close 1",
+            3,
+            TextCause::ExtraPart,
+        ),
     ] {
         let error = read_events(rt.alloc(), text.as_bytes()).err();
         assert_eq!(rt; error, refused(line, cause), "{name}");
@@ -75,8 +131,12 @@ fn the_lines_of_an_event_file_are_read(rt: HostRuntime) -> Result<(), Fail> {
         assert_eq!(rt; Some(&line.line), numbers.get(i));
         assert_eq!(rt; Some(&line.actor), actors.get(i));
         let is_read = match i {
-            0 => matches!(&line.what, What1::Call(Event::Begin(text)) if text.list() == b"name".as_slice()),
-            1 => matches!(&line.what, What1::Call(Event::Edit(Edit::Label(0x10054, _)))),
+            0 =>
+                matches!(&line.what, What1::Call(Event::Begin(text)) if text.list() == b"name".as_slice()),
+            1 => matches!(
+                &line.what,
+                What1::Call(Event::Edit(Edit::Label(0x10054, _)))
+            ),
             2 => matches!(&line.what, What1::Ask(Query::Name(0x10054))),
             3 => matches!(&line.what, What1::Call(Event::Offer(u64::MAX))),
             4 => matches!(&line.what, What1::Settle(64)),

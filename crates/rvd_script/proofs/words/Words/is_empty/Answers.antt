@@ -1,4 +1,4 @@
-use Rattle.std.proofs.Common.{◌≡◌, ap, sym, ◌∙◌}
+use Rattle.std.proofs.Common.{ap, ◌∙◌}
 use Rattle.rvd_script.specs.Words.{is_empty}
 use Rattle.rvd_script.proofs.WordLemmas.{tests_empty}
 use Rattle.rvd_script.proofs.words.Words.is_empty.Goals as goal

@@ -1,4 +1,4 @@
-use Rattle.std.proofs.Common.{◌≡◌, ap, sym, ◌∙◌, arith}
+use Rattle.std.proofs.Common.{sym, ◌∙◌, arith}
 use Rattle.rvd_script.proofs.WordLemmas.{first_word}
 use Rattle.rvd_script.proofs.words.Words.word.Goals as goal
 
