@@ -1,0 +1,8 @@
+pub mod WordLemmas
+pub mod Decimals
+pub mod Joins
+pub mod TextLemmas
+pub mod LineLemmas
+pub mod ActorLemmas
+pub mod FileLemmas
+pub mod WorkedRows
