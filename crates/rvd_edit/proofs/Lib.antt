@@ -4,6 +4,7 @@ pub mod FurtherRefs
 pub mod BytesLength
 pub mod Rows
 pub mod NoAnalysis
+pub mod FewChanges
 pub mod WithoutLength
 pub mod FurtherFits
 pub mod NothingMet

@@ -1,7 +1,7 @@
 -- The changes that edits make, each with the cell that stands at its key before. Use `set` for a fact that an analyst
 -- makes, `removed` for one that goes by an analyst's word, and `further` for what analysis made of it. `SetsNoAnalysis`
--- tells that changes leave nothing new to analysis.
-use Rattle.std.specs.Prelude.{◌≡◌, ℕ, zero, suc, ◌+◌, ◌%◌, Bool, true, false, List, [], ◌∷◌, ◌++◌, if◌then◌else◌, Option, Some, None}
+-- tells that changes leave nothing new to analysis, and `IsFew` bounds their number.
+use Rattle.std.specs.Prelude.{◌≡◌, ◌≤◌, ℕ, zero, suc, ◌+◌, ◌%◌, Bool, true, false, List, [], ◌∷◌, ◌++◌, length, if◌then◌else◌, Option, Some, None}
 use Rattle.rvd_fact.specs.declared.keys.Key.{Key}
 use Rattle.rvd_fact.specs.declared.keys.Kind.TheVariants as kind
 use Rattle.rvd_fact.specs.declared.cells.Cell.{Cell}
@@ -79,3 +79,7 @@ is_of_analyst (Some c) = is_user c.source
 abbrev pub SetsNoAnalysis : List Change → Type 0
 SetsNoAnalysis [] = Unit {0}
 SetsNoAnalysis (c ∷ cs) = (is_of_analyst c.after ≡ true) × SetsNoAnalysis cs
+
+-- at most one change for the unit or the fact itself, one for each slot, and one more
+abbrev pub IsFew : List Change → Type 0
+IsFew changes = length changes ≤ 66

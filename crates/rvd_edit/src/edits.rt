@@ -3,7 +3,7 @@ ghost use Rattle.std.specs.Int.{from_le_bytes, w32};
 ghost use Rattle.rvd_fact.specs.declared.values.Value.TheVariants.{Block};
 ghost use Rattle.rvd_fact.specs.Valid.{Fits};
 ghost use Rattle.rvd_event.specs.Edits.{is_edit};
-ghost use Rattle.rvd_edit.specs.Changes.{SetsNoAnalysis};
+ghost use Rattle.rvd_edit.specs.Changes.{IsFew, SetsNoAnalysis};
 ghost use Rattle.rvd_edit.specs.Steps.{Gives, GivesBy, IfRefused};
 ghost use Rattle.rvd_edit.specs.Edits.{block_edit, body_edit, clear_edit, code_edit, data_edit, edit_of, entry_edit, form_size, further_of_fact, has_memory, has_text, label_edit, note_edit, ref_edit, release_edit, remove_edit};
 
@@ -296,6 +296,7 @@ pub fn changes_of(alloc: Global, program: &Program, edit: &Edit) -> Result<Vec<C
     ensures refused { IfErr result (λ error. IfRefused error (λ refusal. edit_of program.now edit.now ≡ Err refusal)) }
     ensures fits { IfOk result (λ changes. is_edit edit.now ≡ true → Fits program.now changes.items) }
     ensures analysis { IfOk result (λ changes. SetsNoAnalysis changes.items) }
+    ensures few { IfOk result (λ changes. IsFew changes.items) }
 {
     // Reading a program tells that it is valid, so that the changes fit it.
     let _entries = program.entries();

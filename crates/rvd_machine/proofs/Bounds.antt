@@ -1,12 +1,11 @@
 -- What is bounded in the state after a legal journal. Use `legal_is_bounded`.
-use Rattle.std.proofs.Common.{◌≡◌, ℕ, zero, suc, ◌+◌, ◌≤◌, ◌<◌, Bool, true, false, cond, ◌&&◌, ◌||◌, not, ◌==◌, nat_le, nat_lt, List, [], ◌∷◌, ◌++◌, length, filter, Option, Some, None, Result, Ok, Err, refl, sym, ap, ◌∙◌, subst, arith}
+use Rattle.std.proofs.Common.{◌≡◌, ℕ, zero, suc, ◌+◌, ◌≤◌, ◌<◌, Bool, true, false, cond, ◌&&◌, ◌||◌, not, ◌==◌, nat_le, nat_lt, List, [], ◌∷◌, length, filter, Option, Some, None, Result, Ok, Err, refl, sym, ap, ◌∙◌, subst, arith}
 use Rattle.std.specs.Prelude.{unwrap_or}
 use Rattle.std.specs.Option.{MatchOption}
 use Rattle.std.proofs.lemmas.Bool.{cond_both, leb-false}
 use Rattle.std.proofs.lemmas.List.{length-append}
 use Rattle.rvd_fact.specs.declared.cells.Change.{Change}
 use Rattle.rvd_fact.specs.Program.{Program}
-use Rattle.rvd_event.specs.declared.edits.Edit.{Edit}
 use Rattle.rvd_event.specs.declared.edits.EditRefusal.{EditRefusal}
 use Rattle.rvd_event.specs.declared.events.Event.{Event}
 use Rattle.rvd_event.specs.declared.events.Event.TheVariants as event
@@ -20,7 +19,7 @@ use Rattle.rvd_journal.specs.declared.entries.Entry.{Entry}
 use Rattle.rvd_edit.specs.Edits.{edit_of}
 use Rattle.rvd_machine.specs.State.{State, Open, base, work, lives, lives_in, is_session, without, up_to}
 use Rattle.rvd_machine.specs.Moves.{move, changed_in, edited_by, begun_in, ended_in, closed_in}
-use Rattle.rvd_machine.specs.Replies.{reply_to, refused, refused_if, answered, is_of_analysis}
+use Rattle.rvd_machine.specs.Replies.{refused, refused_if, answered, is_of_analysis}
 use Rattle.rvd_machine.specs.Steps.{Head, start_of, state_from, state, after, moved, IsStep, AreSteps, IsLegal, IsBounded}
 
 -- lists that lose elements

@@ -9,7 +9,6 @@ use Rattle.rvd_event.specs.declared.events.Event.{Event}
 use Rattle.rvd_event.specs.declared.events.Event.TheVariants as event
 use Rattle.rvd_event.specs.declared.steps.Step.{Step}
 use Rattle.rvd_event.specs.declared.steps.Step.TheVariants as step
-use Rattle.rvd_trans.specs.declared.entries.Entry.{Entry}
 use Rattle.rvd_trans.specs.Entries.{count_of, has_of, without_newest, without_all}
 use Rattle.rvd_undo.specs.History.{after_commit, after_undo, after_redo}
 use Rattle.rvd_edit.specs.Edits.{edit_of}

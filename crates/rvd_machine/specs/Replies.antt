@@ -1,7 +1,6 @@
 -- What the machine answers. Use `refused` for the first refusal in order, and `reply_to` for the one reply to an event.
-use Rattle.std.specs.Prelude.{ℕ, ◌+◌, Bool, true, false, ◌&&◌, ◌||◌, not, nat_lt, nat_le, ◌==◌, List, [], ◌∷◌, length, Option, Some, None, Result, Ok, Err, if◌then◌else◌}
+use Rattle.std.specs.Prelude.{ℕ, ◌+◌, Bool, true, false, nat_lt, nat_le, ◌==◌, List, length, Option, Some, None, Result, Ok, Err, if◌then◌else◌}
 use Rattle.rvd_fact.specs.declared.cells.Change.{Change}
-use Rattle.rvd_fact.specs.Program.{Program}
 use Rattle.rvd_event.specs.declared.edits.EditRefusal.{EditRefusal}
 use Rattle.rvd_event.specs.declared.events.Event.{Event}
 use Rattle.rvd_event.specs.declared.events.Event.TheVariants as event

@@ -1,6 +1,6 @@
 -- The state of the machine. Use `first_state` for the start, `base` for the committed program, `work` for the one that
 -- edits see, and `lives` and `lives_of` for the live entries of the open transaction.
-use Rattle.std.specs.Prelude.{ℕ, zero, suc, ◌+◌, Bool, true, false, not, ◌==◌, List, [], ◌∷◌, ◌++◌, length, filter, Option, Some, None}
+use Rattle.std.specs.Prelude.{ℕ, zero, suc, Bool, true, false, not, ◌==◌, List, [], ◌∷◌, ◌++◌, length, filter, Option, Some, None}
 use Rattle.std.specs.List.{list_any}
 use Rattle.rvd_fact.specs.Program.{Program}
 use Rattle.rvd_event.specs.declared.steps.Step.{Step}

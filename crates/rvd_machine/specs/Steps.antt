@@ -1,6 +1,6 @@
 -- Which entries are steps of the machine, which journals are legal, and the state that a journal leads to. Use `IsLegal` and
 -- `state` for what a run promises.
-use Rattle.std.specs.Prelude.{◌≡◌, ℕ, ◌+◌, ◌≤◌, Bool, true, false, ◌&&◌, ◌||◌, nat_lt, nat_le, List, [], ◌∷◌, length, Option, Some, None}
+use Rattle.std.specs.Prelude.{◌≡◌, ℕ, ◌+◌, ◌≤◌, Bool, true, false, ◌&&◌, ◌||◌, nat_lt, nat_le, List, [], ◌∷◌, length, Some, None}
 use Rattle.rvd_fact.specs.Program.{Program}
 use Rattle.rvd_fact.specs.Valid.{IsValid}
 use Rattle.rvd_event.specs.declared.events.Event.{Event}

@@ -1,9 +1,7 @@
 -- The close of an open session. Use `did_close`.
 use Rattle.std.proofs.Common.{◌≡◌, ℕ, ◌+◌, Bool, true, cond, List, Option, Some, None, sym, ap, ◌∙◌}
 use Rattle.rvd_event.specs.declared.events.Event.TheVariants as event
-use Rattle.rvd_event.specs.declared.replies.Reply.{Reply}
 use Rattle.rvd_event.specs.declared.replies.Reply.TheVariants as reply
-use Rattle.rvd_event.specs.declared.replies.Refusal.{Refusal}
 use Rattle.rvd_event.specs.declared.replies.Refusal.TheVariants as refusal
 use Rattle.rvd_machine.specs.State.{State, Open, lives_of, is_session, without}
 use Rattle.rvd_machine.specs.Moves.{closed_in}

@@ -1,8 +1,7 @@
 -- Which command words are. Use `no_play` where they are a print.
-use Rattle.std.proofs.Common.{◌≡◌, ℕ, Bool, false, ◌||◌, List, [], ◌∷◌, Option, Some, None, refl, sym}
-use Rattle.std.specs.Option.{is_some}
+use Rattle.std.proofs.Common.{◌≡◌, ℕ, List, [], ◌∷◌, Some, None, refl}
 use Rattle.rvd_top.specs.declared.words.Print.{Print}
-use Rattle.rvd_top.specs.Words.{is_command, print_of, play_of}
+use Rattle.rvd_top.specs.Words.{print_of, play_of}
 
 none-some : {A : Type 0} (x : A) → None ≡ Some x → ⊥
 none-some x e = cc

@@ -1,5 +1,5 @@
 -- How many programs a history has. Use `past_length` and `undone_length`.
-use Rattle.std.proofs.Common.{◌≡◌, List, [], ◌∷◌, length, suc, refl, sym, ap}
+use Rattle.std.proofs.Common.{◌≡◌, List, [], ◌∷◌, length, suc, refl, ap}
 use Rattle.rvd_fact.specs.declared.cells.Change.{Change}
 use Rattle.rvd_fact.specs.Program.{Program, applied_all, reverted_all}
 use Rattle.rvd_undo.specs.Records.{programs_back, programs_on}

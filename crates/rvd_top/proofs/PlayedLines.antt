@@ -1,12 +1,11 @@
 -- A journal that grows as the lines of an event file are played. Use `plays_none` for its start, `plays_more` for one more
 -- line, and `plays_few` for the room that is left.
-use Rattle.std.proofs.Common.{◌≡◌, ℕ, zero, suc, ◌+◌, ◌≤◌, ◌<◌, Bool, true, false, cond, not, ◌&&◌, ◌||◌, nat_le, nat_lt, List, [], ◌∷◌, ◌++◌, length, take, get_or, map, find, flat_map, Option, Some, None, refl, sym, ap, ◌∙◌, subst, inl, inr, ⊎_elim, arith}
+use Rattle.std.proofs.Common.{◌≡◌, ℕ, zero, suc, ◌+◌, ◌≤◌, ◌<◌, Bool, true, false, cond, not, ◌&&◌, nat_le, nat_lt, List, [], ◌∷◌, ◌++◌, length, take, get_or, map, find, Some, None, refl, sym, ap, ◌∙◌, subst, ⊎_elim, arith}
 use Rattle.std.specs.Option.{option_map}
 use Rattle.std.proofs.lemmas.Bool.{true≢false, false≢true, and_parts, and_from, or_cases, or_right, not-true, cases_Bool, le-leb, lt-ltb, leb-true}
 use Rattle.std.proofs.lemmas.Grind.{flat_map-append}
 use Rattle.std.proofs.lemmas.List.{map-append, length-append, append-nil, take_more}
 use Rattle.std.proofs.lemmas.List.Elements.{All-get_or}
-use Rattle.rvd_fact.specs.Program.{Program}
 use Rattle.rvd_fact.specs.Valid.{IsValid}
 use Rattle.rvd_event.specs.declared.events.Event.{Event}
 use Rattle.rvd_event.specs.declared.events.Event.TheVariants as event
@@ -18,10 +17,10 @@ use Rattle.rvd_script.specs.declared.script_lines.What1.TheVariants.{Call, Ask, 
 use Rattle.rvd_script.specs.Legal.{Events, IsFile, is_line, is_of_actor, is_session_event, is_worker_event}
 use Rattle.rvd_machine.specs.State.{State}
 use Rattle.rvd_machine.specs.Replies.{is_of_analysis}
-use Rattle.rvd_machine.specs.Steps.{Head, start_of, state, after, need, may_call, has_room, has_own_room, kept_rooms, IsStep, IsLegal, IsBounded}
+use Rattle.rvd_machine.specs.Steps.{Head, start_of, state, after, need, may_call, has_own_room, kept_rooms, IsStep, IsBounded}
 use Rattle.rvd_machine.proofs.Journals.{legal-push, state-push}
 use Rattle.rvd_machine.proofs.Bounds.{legal_is_bounded}
-use Rattle.rvd_top.specs.Plays.{Plays, PlaysIn, PlaysLine, DidCall, calls, calls_in, calls_of, call_of, is_played, is_whole, first_unplayed}
+use Rattle.rvd_top.specs.Plays.{Plays, PlaysIn, PlaysLine, calls, calls_in, calls_of, call_of, is_played, is_whole, first_unplayed}
 
 pub plays_none : (h : Head) → IsValid h.program → (1 ≤ h.sessions) × (h.sessions ≤ 16) → h.workers ≤ 8 → Plays h [] (start_of h)
 plays_none h valid sessions workers = record {
@@ -95,11 +94,11 @@ own_event : (S W a : ℕ) (e : Event) → is_of_actor S W a (Call e) ≡ true �
 own_event S W a e line other =
     ⊎_elim
     (λ own. let x = and_parts (nat_le 1 a) (nat_le a S && is_session_event e) own in
-      let y = and_parts (nat_le a S) (is_session_event e) x.1 in
-      record { from = leb-true 1 a x.0; to = leb-true a S y.0; event = whole_event e y.1 })
+    let y = and_parts (nat_le a S) (is_session_event e) x.1 in
+    record { from = leb-true 1 a x.0; to = leb-true a S y.0; event = whole_event e y.1 })
     (λ worker. let x = and_parts (nat_lt S a) (nat_le a (S + W) && is_worker_event e) worker in
-      let y = and_parts (nat_le a (S + W)) (is_worker_event e) x.1 in
-      absurd (false≢true (sym (no_worker e other) ∙ y.1)))
+    let y = and_parts (nat_le a (S + W)) (is_worker_event e) x.1 in
+    absurd (false≢true (sym (no_worker e other) ∙ y.1)))
     (or_cases _ _ line)
 
 may_call_is : (s : State) (a : ℕ) (e : Event) → is_of_analysis e ≡ false → 1 ≤ a → a ≤ s.sessions → may_call s a e ≡ true

@@ -1,9 +1,8 @@
 -- How a command ends on what its file holds. Use `Ends` and `PlayEnds` where the files' bytes are
 -- known to be within the limit, and `EndsAbove` where they pass it.
-use Rattle.std.specs.Prelude.{◌≡◌, ℕ, ◌<◌, List, [], take, Option, Some, None, Result, Ok, Err}
+use Rattle.std.specs.Prelude.{◌≡◌, ℕ, List, [], take, Option, Some, None, Result, Ok, Err}
 use Rattle.std.specs.Io.KnownBytes.{Appends}
 use Rattle.rvd_fact.specs.declared.cells.Change.{Change}
-use Rattle.rvd_fact.specs.declared.causes.What.{What}
 use Rattle.rvd_fact.specs.declared.causes.What.TheVariants.{FileBytes, Lines}
 use Rattle.rvd_fact.specs.declared.causes.TextCause.TheVariants.{UnknownWord}
 use Rattle.rvd_fact.specs.Program.{Program, applied_all}

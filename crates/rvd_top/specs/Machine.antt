@@ -1,9 +1,9 @@
 -- What the parts of `Early` stand for: the state of the machine. Use `state_in` for it, and `IsWhole` for what the parts
 -- keep among them.
-use Rattle.std.specs.Prelude.{◌≡◌, ℕ, ◌+◌, ◌≤◌, List, length, Option, Some, None}
+use Rattle.std.specs.Prelude.{◌≡◌, ◌+◌, ◌≤◌, length, Option, Some, None}
 use Rattle.std.specs.Option.{option_map}
 use Rattle.rvd_fact.specs.Program.{Program, applied_all}
-use Rattle.rvd_fact.specs.Valid.{IsValid, Fits}
+use Rattle.rvd_fact.specs.Valid.{Fits}
 use Rattle.rvd_trans.specs.Transaction.{Transaction}
 use Rattle.rvd_undo.specs.Records.{Stands, history}
 use Rattle.rvd_machine.specs.State.{State, Open}

@@ -1,7 +1,7 @@
 -- What a run of a command promises, as one record that each call cites. A cabinet holds files and counts its faults, and a
 -- sink has contents and counts its faults; the run took the cabinet from files to files', the sink from out to out', and
 -- ended so.
-use Rattle.std.specs.Prelude.{◌≡◌, ◌↔◌, ◌⊎◌, ℕ, ◌<◌, ◌≤◌, List, length, [], Bool, false, Option, None, Some, Ok}
+use Rattle.std.specs.Prelude.{◌≡◌, ◌↔◌, ◌⊎◌, ℕ, ◌<◌, ◌≤◌, List, length, [], false, Option, None, Some, Ok}
 use Rattle.std.specs.Io.KnownBytes.{Appends}
 use Rattle.rvd_io.specs.Causes.{Rose}
 use Rattle.rvd_fact.specs.declared.cells.Change.{Change}

@@ -223,14 +223,7 @@ impl Early {
             return self.refuse(Refusal::TooManyEntries);
         }
         let number = self.next_entry;
-        join_or_open(
-            alloc,
-            &mut self.current,
-            &self.base,
-            number,
-            actor,
-            text,
-        )?;
+        join_or_open(alloc, &mut self.current, &self.base, number, actor, text)?;
         self.next_entry += 1;
         self.count += 1;
         Ok(number)

@@ -84,12 +84,7 @@ pub(crate) fn make_changes(
 
 /// A transaction is committed, in the room for its record and its step.
 #[tactic(auto, using(crate::proofs::Committing::committed))]
-pub(crate) fn commit(
-    base: &mut Program,
-    undos: &mut Undos,
-    steps: &mut Vec<Step>,
-    working: Working,
-)
+pub(crate) fn commit(base: &mut Program, undos: &mut Undos, steps: &mut Vec<Step>, working: Working)
     requires stands { Stands base.old undos.old.records }
     requires leads { LeadsFrom base.old (Some working) }
     requires room { 0 < undos.old.spare }

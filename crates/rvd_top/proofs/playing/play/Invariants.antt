@@ -1,4 +1,4 @@
-use Rattle.std.proofs.Common.{◌≡◌, take}
+use Rattle.std.proofs.Common.{take}
 use Rattle.rvd_top.specs.Plays.{Plays, calls, head_of}
 use Rattle.rvd_top.proofs.playing.play.Given as goal
 

@@ -1,5 +1,4 @@
-use Rattle.std.proofs.Common.{◌≡◌, ◌++◌, List, Some, ap, ◌∙◌, subst, sym}
-use Rattle.rvd_fact.specs.declared.cells.Change.{Change}
+use Rattle.std.proofs.Common.{◌≡◌, ◌++◌, ap, ◌∙◌, subst}
 use Rattle.rvd_fact.specs.Program.{applied_all}
 use Rattle.rvd_trans.specs.Transaction.{Transaction}
 use Rattle.rvd_top.specs.Machine.{LeadsFrom}
