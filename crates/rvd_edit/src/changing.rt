@@ -1,6 +1,5 @@
 ghost use Rattle.std.specs.Prelude.{◌≡◌, Some, [], ◌∷◌, ◌++◌, IfOk, OnOk};
 ghost use Rattle.std.specs.Option.{option_copied};
-ghost use Rattle.rvd_fact.specs.Program.{cell_at};
 ghost use Rattle.rvd_fact.specs.Memory.{has_instruction};
 ghost use Rattle.rvd_edit.specs.Changes.{dropped, further, further_of_code, further_of_unit, further_refs, is_found, left_behind, of_analyst, removed, set};
 

@@ -3,7 +3,7 @@ ghost use Rattle.std.specs.Str.{bytes_eq};
 ghost use Rattle.std.specs.Option.{option_copied};
 ghost use Rattle.rvd_fact.specs.declared.keys.Kind.TheVariants as kind;
 ghost use Rattle.rvd_fact.specs.Program.{cell_at};
-ghost use Rattle.rvd_edit.specs.Slots.{first_slot, free_slot, has_name, has_target, slot_key, slot_with};
+ghost use Rattle.rvd_edit.specs.Slots.{free_slot, has_name, has_target, slot_key, slot_with};
 ghost use Rattle.rvd_edit.specs.Edits.{no_slot_has, slot_or_full};
 
 use rvd_event::EditRefusal;

@@ -1,11 +1,9 @@
-ghost use Rattle.std.specs.Prelude.{◌≡◌, ◌+◌, ◌^◌, ◌<◌, ◌&&◌, nat_lt, length, take, IfOk};
+ghost use Rattle.std.specs.Prelude.{◌≡◌, ◌+◌, ◌^◌, ◌<◌, ◌&&◌, nat_lt, length, IfOk};
 ghost use Rattle.std.specs.List.{count_by};
-ghost use Rattle.std.specs.Option.{option_map_or};
-ghost use Rattle.rvd_event.specs.declared.edits.EditRefusal.TheVariants.{BlockOverlap, Overlap};
-ghost use Rattle.rvd_fact.specs.Memory.{block_key, block_len, form_len, key_of, unit_len};
-ghost use Rattle.rvd_fact.specs.Valid.{block_span, span};
+ghost use Rattle.rvd_fact.specs.Memory.{block_len, form_len, key_of, unit_len};
+ghost use Rattle.rvd_fact.specs.Valid.{block_span};
 ghost use Rattle.rvd_edit.specs.Steps.{GivesBy};
-ghost use Rattle.rvd_edit.specs.Spaces.{aligned, first_met, gone_there, in_memory, in_one_block, in_space, is_block, is_decoded, is_left, meets, met_nothing, no_block_met, no_unit_met, not_there, one_block_more, room, stored, there};
+ghost use Rattle.rvd_edit.specs.Spaces.{aligned, first_met, gone_there, in_memory, in_one_block, in_space, is_block, is_decoded, is_left, meets, no_block_met, no_unit_met, not_there, one_block_more, room, stored, there};
 
 use crate::edit_error::EditError;
 use rvd_decode::decode;
