@@ -347,3 +347,6 @@ impl Early {
         Ok(ended)
     }
 }
+
+#[cfg(test)]
+mod tests;

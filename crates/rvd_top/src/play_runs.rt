@@ -157,3 +157,6 @@ pub(crate) fn run_play<C: Cabinet, K: Sink>(
 {
     run_on_files(alloc, file, events, files, out)
 }
+
+#[cfg(test)]
+mod tests;

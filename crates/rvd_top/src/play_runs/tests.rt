@@ -1,0 +1,138 @@
+use crate::{Ending, run_plain};
+use rvd_fact::{Text, TextCause};
+use rvd_io::{MemoryCabinet, MemorySink};
+use sample_files::FILE_A;
+use std::alloc::Global;
+use std::test::Fail;
+
+const NAMED: &str = "\
+events 1 0
+s1 begin \"name\"
+s1 label 10054 \"start\"
+s1 commit
+s1 read
+s1 undo
+s1 read
+s1 redo
+s1 read
+";
+
+const NAMED_TEXT: &str = "\
+history 3
+1 commit s1 \"name\" 1
+2 undo s1
+3 redo s1
+listing 3
+00010054 imported block 00000010 r-x init
+00010054 imported mark
+00010054 user symbol 0 \"start\"
+";
+
+// One of two entries aborts, so all is rolled back.
+const JOINED: &str = "\
+events 2 0
+s1 begin \"a\"
+s2 begin \"b\"
+s1 label 10054 \"start\"
+s2 abort
+s1 commit
+";
+
+// A session closes with an open entry.
+const CLOSED: &str = "\
+events 1 0
+s1 begin \"e\"
+s1 func 10060
+s1 func 10060
+s1 close
+";
+
+const NOTHING_TEXT: &str = "\
+history 0
+listing 2
+00010054 imported block 00000010 r-x init
+00010054 imported mark
+";
+
+fn text(alloc: Global, word: &str) -> Result<Text, Fail> {
+    let bytes = Vec::from_slice(alloc, word.as_bytes())?;
+    if bytes.len() > 1000 {
+        return Err(Fail::from("a long word"));
+    }
+    Ok(Text::of(alloc, bytes)?)
+}
+
+// How playing these events on file A ends, and what the sink then holds.
+fn play(alloc: Global, events: &str, failing: &[u64]) -> Result<(Ending, MemorySink), Fail> {
+    let mut words = Vec::new(alloc);
+    for word in ["play", "A", "E"] {
+        words.push(String::from_str(alloc, word)?)?;
+    }
+    let mut files = Vec::new(alloc);
+    files.push((text(alloc, "A")?, Vec::from_slice(alloc, &FILE_A)?))?;
+    files.push((
+        text(alloc, "E")?,
+        Vec::from_slice(alloc, events.as_bytes())?,
+    ))?;
+    let mut files = MemoryCabinet::new(alloc, files, Vec::from_slice(alloc, failing)?);
+    let mut out = MemorySink::new(alloc, 10_000, Vec::new(alloc))?;
+    let ending = run_plain(alloc, &words, &mut files, &mut out);
+    Ok((ending, out))
+}
+
+fn bad(line: u32, cause: TextCause) -> Ending {
+    Ending::BadText {
+        word: 2,
+        line,
+        cause,
+    }
+}
+
+#[test]
+fn plays_event_files(rt: HostRuntime) -> Result<(), Fail> {
+    let rows = [
+        ("a name", NAMED, Ending::Done, NAMED_TEXT),
+        ("an abort", JOINED, Ending::Done, NOTHING_TEXT),
+        ("a close", CLOSED, Ending::Done, NOTHING_TEXT),
+        (
+            "a job",
+            "events 1 1\nw1 take 1\n",
+            bad(2, TextCause::UnknownWord),
+            "",
+        ),
+        (
+            "a query",
+            "events 1 0\n\ns1 ask count",
+            bad(3, TextCause::UnknownWord),
+            "",
+        ),
+        (
+            "no address",
+            "events 1 0\ns1 mark 1005g",
+            bad(2, TextCause::BadAddress),
+            "",
+        ),
+        (
+            "no event file",
+            "s1 read",
+            bad(1, TextCause::UnknownWord),
+            "",
+        ),
+    ];
+    for (name, events, wanted, printed) in rows {
+        let (ending, out) = play(rt.alloc(), events, &[])?;
+        assert_eq!(rt; ending, wanted, "{name}");
+        assert_eq!(rt; out.bytes(), printed.as_bytes(), "{name}");
+    }
+    Ok(())
+}
+
+#[test]
+fn names_the_word_of_a_fault(rt: HostRuntime) -> Result<(), Fail> {
+    for word in 1..3 {
+        let (ending, out) = play(rt.alloc(), NAMED, &[u64::from(word)])?;
+        assert_eq!(rt; ending, Ending::ReadFault { word });
+        assert!(rt; out.bytes().is_empty());
+    }
+    Ok(())
+}
