@@ -1,6 +1,5 @@
 -- What keeps a longer text keeps its front. Use it where a loop has appended something before a failure.
-use Rattle.std.proofs.Common.{◌≡◌, ℕ, ◌≤◌, List, ◌++◌, length, take, sym, ap, ◌∙◌, arith, take-take, length-append, min}
-use Rattle.std.proofs.lemmas.List.{take-append-le}
+use Rattle.std.proofs.Common.{ℕ, ◌≤◌, List, ◌++◌, length, take, sym, ap, ◌∙◌, arith, take-take, length-append}
 use Rattle.std.proofs.Math.Seq.{take-append_seam}
 use Rattle.rvd_notation.specs.Pieces.{Keeps}
 
