@@ -1,1 +1,5 @@
 pub mod ItemOrder
+mod SmallFile
+mod RuleRows
+mod WakeRows
+mod StringRows
