@@ -3,3 +3,6 @@ mod SmallFile
 mod RuleRows
 mod WakeRows
 mod StringRows
+pub mod Growing
+pub mod ReachWalks
+pub mod CodeAddresses

@@ -11,3 +11,4 @@ pub mod Strings
 pub mod Rules
 pub mod Promise
 pub mod Wake
+pub mod Unsettled
