@@ -1,6 +1,6 @@
 -- The addresses of a valid program's instructions: `code_addresses` has just those where an instruction is.
-use Rattle.std.proofs.Common.{◌≡◌, ◌≢◌, ℕ, zero, suc, ◌+◌, ◌<◌, ◌≤◌, Bool, true, false, cond, ◌&&◌, ◌||◌, List, [], ◌∷◌, Option, Some, None, refl, sym, ap, ◌∙◌, subst, inl, inr, ◌⊎◌, arith}
-use Rattle.std.specs.Prelude.{filter_map, ◌==◌, T, nat_le}
+use Rattle.std.proofs.Common.{◌≡◌, ℕ, Bool, true, false, cond, ◌&&◌, ◌||◌, List, [], ◌∷◌, Option, Some, None, refl, sym, ap, ◌∙◌, arith}
+use Rattle.std.specs.Prelude.{◌==◌, nat_le}
 use Rattle.std.specs.List.{list_any}
 use Rattle.std.proofs.lemmas.Bool.{false≢true, and_parts, and_from, eq-eqb, eqb-true, leb-true}
 use Rattle.rvd_fact.specs.declared.keys.Kind.{Kind}
@@ -16,7 +16,7 @@ use Rattle.rvd_fact.specs.Valid.{IsValid, suits, is_address, is_of, top_sub}
 use Rattle.rvd_fact.proofs.KeyOrder.{same_kind}
 use Rattle.rvd_fact.proofs.Scans.{Found, found, scanned}
 use Rattle.rvd_fact.proofs.Validity.{suits-is_of}
-use Rattle.rvd_ask.specs.Reach.{has, code_address, code_addresses}
+use Rattle.rvd_ask.specs.Reach.{has, code_addresses}
 use Rattle.rvd_ask.proofs.ReachWalks.{AreCodes}
 
 -- whether an entry is the instruction at an address
@@ -67,6 +67,7 @@ are_codes S v z = (forth, back)
         let parts = and_parts (is_code f.cell.value) (f.key.at == z) f.passes in
         let key : f.key ≡ unit_key z = unit_key_is f.key f.cell z (v.cells f.key f.cell f.here) parts.0 (eqb-true f.key.at z parts.1) in
         ap is_instruction (ap (cell_at S) (sym key) ∙ f.here) ∙ parts.0
+
     back : has_instruction S z ≡ true → has z (code_addresses S) ≡ true
     back h = has-codes z S ∙ at_cell (cell_at S (unit_key z)) refl h
       where

@@ -1,6 +1,6 @@
 -- A list that is filtered by a growing test, again and again, stops changing. Use `long_or_fixed` for that, `has-filter`
 -- and `in_filter` for the members of a filtered list, and `any_has` and `any_from` for a scan that finds one.
-use Rattle.std.proofs.Common.{◌≡◌, ◌≢◌, ℕ, zero, suc, ◌+◌, ◌<◌, ◌≤◌, Bool, true, false, cond, ◌&&◌, ◌||◌, List, [], ◌∷◌, length, refl, sym, ap, ◌∙◌, subst, inl, inr, ◌⊎◌, arith}
+use Rattle.std.proofs.Common.{◌≡◌, ℕ, zero, suc, ◌<◌, ◌≤◌, Bool, true, false, cond, List, [], ◌∷◌, length, refl, sym, ap, ◌∙◌, subst, inl, inr, ◌⊎◌, arith}
 use Rattle.std.specs.Prelude.{filter, ◌==◌}
 use Rattle.std.specs.List.{list_any}
 use Rattle.std.proofs.lemmas.Bool.{false≢true, or_cases, or_left, or_right, eq-eqb, eqb-true}
@@ -59,9 +59,9 @@ has-filter p z [] h = absurd (false≢true h)
 has-filter p z (x ∷ xs) h =
     elim (p x) as (λ b. p x ≡ b → has z (cond b (x ∷ filter p xs) (filter p xs)) ≡ true → (has z (x ∷ xs) ≡ true) × (p z ≡ true)) [
       | true ↦ λ e h. elim (or_cases (x == z) (has z (filter p xs)) h) [
-          | inl here ↦ (or_left (x == z) _ here, ap p (sym (eqb-true x z here)) ∙ e)
-          | inr later ↦ (or_right (x == z) _ (has-filter p z xs later).0, (has-filter p z xs later).1)
-        ]
+        | inl here ↦ (or_left (x == z) _ here, ap p (sym (eqb-true x z here)) ∙ e)
+        | inr later ↦ (or_right (x == z) _ (has-filter p z xs later).0, (has-filter p z xs later).1)
+      ]
       | false ↦ λ e h. (or_right (x == z) _ (has-filter p z xs h).0, (has-filter p z xs h).1)
     ] refl h
 

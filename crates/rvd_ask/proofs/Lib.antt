@@ -6,3 +6,4 @@ mod StringRows
 pub mod Growing
 pub mod ReachWalks
 pub mod CodeAddresses
+mod Listings

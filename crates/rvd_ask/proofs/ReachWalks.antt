@@ -1,12 +1,12 @@
 -- The reach has just the ends of walks: use `reached` and `member`, with `AreCodes` of the program's instructions.
-use Rattle.std.proofs.Common.{◌≡◌, ◌≢◌, ℕ, zero, suc, ◌+◌, ◌<◌, ◌≤◌, Bool, true, false, cond, ◌&&◌, ◌||◌, List, [], ◌∷◌, length, refl, sym, ap, ◌∙◌, subst, inl, inr, ◌⊎◌, arith}
+use Rattle.std.proofs.Common.{◌≡◌, ℕ, zero, suc, ◌<◌, ◌≤◌, Bool, true, ◌||◌, List, length, refl, sym, ap, ◌∙◌, subst, inl, inr, ◌⊎◌, arith}
 use Rattle.std.specs.Prelude.{filter, ◌==◌}
 use Rattle.std.specs.List.{list_any}
 use Rattle.std.proofs.lemmas.Bool.{and_parts, or_cases, or_left, or_right, eqb-true, eq-eqb, cases_lt}
 use Rattle.rvd_fact.specs.Program.{Program}
 use Rattle.rvd_fact.specs.Memory.{has_instruction}
-use Rattle.rvd_ask.specs.Reach.{follows, may_join, ways, Walk, IsReached, has, code_addresses, grown, times, grown_times, reach}
-use Rattle.rvd_ask.proofs.Growing.{Wider, filter_no_longer, filter_wider_longer, filter_same, long_or_fixed, has-filter, in_filter, any_has, any_from}
+use Rattle.rvd_ask.specs.Reach.{follows, may_join, ways, Walk, IsReached, has, code_addresses, grown, grown_times, reach}
+use Rattle.rvd_ask.proofs.Growing.{Wider, filter_no_longer, filter_same, long_or_fixed, has-filter, in_filter, any_has, any_from}
 
 -- the list of instructions has just the addresses with an instruction
 abbrev pub AreCodes : Program → Type 0
@@ -42,9 +42,9 @@ module _ (S : Program) (e : ℕ) (codes : AreCodes S) where
       let all = length (code_addresses S) in
       elim (long_or_fixed (grown S (code_addresses S)) (filter (λ z. z == e) (code_addresses S)) step all) [
         | inl long ↦ elim (step all) [
-            | inl more ↦ absurd (omega (arith, subst (λ (xs : List ℕ). length xs ≤ length (code_addresses S)) (sym (filtered (suc all))) (filter_no_longer (test (suc all)) (code_addresses S))))
-            | inr same ↦ same
-          ]
+          | inl more ↦ absurd (omega (arith, subst (λ (xs : List ℕ). length xs ≤ length (code_addresses S)) (sym (filtered (suc all))) (filter_no_longer (test (suc all)) (code_addresses S))))
+          | inr same ↦ same
+        ]
         | inr same ↦ same
       ]
 

@@ -1,25 +1,21 @@
 -- The rules on the worked example: each proposes what comes next, and at the end none proposes anything.
-use Rattle.std.proofs.Common.{◌≡◌, ℕ, refl, Option, Some, None, List, [], ◌∷◌, true, false}
+use Rattle.std.proofs.Common.{◌≡◌, refl, List, [], ◌∷◌}
 use Rattle.rvd_decode.specs.Table.{operation}
 use Rattle.rvd_fact.specs.declared.cells.Change.{Change}
 use Rattle.rvd_fact.specs.declared.values.Value.TheVariants.{Bookmark}
 use Rattle.rvd_fact.specs.Program.{Program, applied_all}
 use Rattle.rvd_fact.specs.Memory.{block_key, func_key, unit_key}
-use Rattle.rvd_ask.specs.declared.asks.Analyzer.{Analyzer}
-use Rattle.rvd_ask.specs.declared.asks.Analyzer.TheVariants.{Flow, Refs, Funcs, Body, Strings}
-use Rattle.rvd_ask.specs.declared.asks.Ask.{Ask}
+use Rattle.rvd_ask.specs.declared.asks.Analyzer.TheVariants.{Flow, Refs, Funcs, Body}
 use Rattle.rvd_ask.specs.declared.asks.Ask.TheVariants as ask
-use Rattle.rvd_ask.specs.declared.asks.Item.{Item}
 use Rattle.rvd_ask.specs.Places.{addition, body_key, error_key, mark_key}
 use Rattle.rvd_ask.specs.Flow.{bad_instruction, flow_asks, flow_rule, openable, openable_asks}
-use Rattle.rvd_ask.specs.Refs.{refs_asks, refs_rule}
-use Rattle.rvd_ask.specs.Funcs.{funcs_asks, funcs_rule}
+use Rattle.rvd_ask.specs.Refs.{refs_rule}
+use Rattle.rvd_ask.specs.Funcs.{funcs_rule}
 use Rattle.rvd_ask.specs.Reach.{reach}
 use Rattle.rvd_ask.specs.Body.{body_asks, body_rule}
-use Rattle.rvd_ask.specs.Strings.{strings_rule}
 use Rattle.rvd_ask.specs.Rules.{asks, rule}
 use Rattle.rvd_ask.specs.Wake.{item}
-use Rattle.rvd_ask.proofs.SmallFile.{imported, imported_with, code, first_units, with_units, call_ref, jump_ref, with_refs, called_unit, with_call, called_func, with_func, called_body, analyzed}
+use Rattle.rvd_ask.proofs.SmallFile.{imported, imported_with, code, first_units, with_units, call_ref, jump_ref, with_refs, called_unit, with_call, called_func, with_func, called_body}
 
 flow_at_the_entry : rule imported (item Flow 0x10054) ≡ first_units
 unfolding operation openable flow_rule rule

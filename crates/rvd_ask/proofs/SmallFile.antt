@@ -1,9 +1,9 @@
 -- A file of four instructions as a program, and what its analysis adds step by step: the worked example of the rules.
-use Rattle.std.proofs.Common.{ℕ, Option, Some, None, List, [], ◌∷◌, ◌++◌, true, false}
+use Rattle.std.proofs.Common.{ℕ, Some, List, [], ◌∷◌, ◌++◌, true, false}
 use Rattle.rvd_fact.specs.declared.cells.Cell.{Cell}
 use Rattle.rvd_fact.specs.declared.cells.Change.{Change}
 use Rattle.rvd_fact.specs.declared.values.RefClass.TheVariants.{Call, Jump}
-use Rattle.rvd_fact.specs.declared.values.Source.TheVariants.{Analysis, Imported}
+use Rattle.rvd_fact.specs.declared.values.Source.TheVariants.{Imported}
 use Rattle.rvd_fact.specs.declared.values.Value.{Value}
 use Rattle.rvd_fact.specs.declared.values.Value.TheVariants.{Block, Mark, Func, Body, Code, Ref}
 use Rattle.rvd_fact.specs.Program.{Program, applied_all}

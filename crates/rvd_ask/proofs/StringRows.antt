@@ -1,5 +1,5 @@
 -- The rule of strings at the end of a block: a text doesn't run on into the next one.
-use Rattle.std.proofs.Common.{◌≡◌, ℕ, refl, Option, Some, None, List, [], ◌∷◌, true, false}
+use Rattle.std.proofs.Common.{◌≡◌, ℕ, refl, Some, List, [], ◌∷◌, true, false}
 use Rattle.rvd_fact.specs.declared.keys.Key.{Key}
 use Rattle.rvd_fact.specs.declared.cells.Cell.{Cell}
 use Rattle.rvd_fact.specs.declared.values.Form.TheVariants.{Str}
@@ -9,7 +9,6 @@ use Rattle.rvd_fact.specs.declared.values.Value.TheVariants.{Block, Plain, Ref}
 use Rattle.rvd_fact.specs.Program.{Program}
 use Rattle.rvd_fact.specs.Memory.{block_key, unit_key}
 use Rattle.rvd_ask.specs.declared.asks.Analyzer.TheVariants.{Strings}
-use Rattle.rvd_ask.specs.declared.asks.Ask.{Ask}
 use Rattle.rvd_ask.specs.declared.asks.Ask.TheVariants as ask
 use Rattle.rvd_ask.specs.Places.{addition, ref_key}
 use Rattle.rvd_ask.specs.Strings.{strings_asks, strings_rule}

@@ -1,5 +1,5 @@
 -- What a change wakes on the worked example, and which items may be unsettled there.
-use Rattle.std.proofs.Common.{◌≡◌, ℕ, refl, Option, Some, None, List, [], ◌∷◌, ◌++◌, true, false}
+use Rattle.std.proofs.Common.{◌≡◌, ℕ, refl, Some, None, List, [], ◌∷◌}
 use Rattle.std.specs.Prelude.{filter, flat_map, map}
 use Rattle.rvd_decode.specs.Table.{operation}
 use Rattle.rvd_fact.specs.declared.cells.Cell.{Cell}

@@ -1,7 +1,7 @@
 -- The rule of references: the target that the immediate of a jump or a branch tells, and the address that an instruction
 -- computes with the upper value of the one before it; and what the rule asks, in order. Use `refs_rule` and `refs_asks`
 -- for the whole.
-use Rattle.std.specs.Prelude.{ℕ, ◌-◌, ◌%◌, Bool, ◌&&◌, not, ◌==◌, List, [], ◌∷◌, ◌++◌, Option, Some, None, is_none, is_some, if◌then◌else◌}
+use Rattle.std.specs.Prelude.{ℕ, ◌-◌, ◌%◌, ◌&&◌, not, ◌==◌, List, [], ◌∷◌, ◌++◌, Option, Some, None, is_none, is_some, if◌then◌else◌}
 use Rattle.std.specs.Option.{option_map, option_and_then}
 use Rattle.rvd_decode.specs.declared.insn.Op.{Op}
 use Rattle.rvd_decode.specs.declared.insn.Op.TheVariants as op

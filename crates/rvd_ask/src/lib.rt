@@ -27,7 +27,7 @@ mod views;
 pub use answers::{Answer, RefList};
 pub use asks::{Analyzer, Ask, Item};
 pub use items::Items;
-pub use laws::reach_law;
+pub use laws::{listing_law, reach_law};
 pub use proposals::{Proposal, Rule};
 pub use sameness::same;
 pub use std::alloc::AllocError as OutOfMemory;
