@@ -190,15 +190,47 @@ fn a_program_answers_asks(rt: HostRuntime) -> Result<(), Fail> {
     let unit = by_user(Value::Code(0x80_00ef));
     let block = by_user(room(16, Some(Bytes::of(alloc, Vec::new(alloc))?)));
     for (ask, said, row) in [
-        (Ask::Cell(key(START + 4, Kind::Unit, 0)), Answer::Cell(unit), "a unit"),
-        (Ask::Cell(key(START, Kind::Block, 0)), Answer::Cell(block), "a block without its bytes"),
-        (Ask::Cell(key(START, Kind::Func, 0)), Answer::Cell(None), "no function"),
-        (Ask::Cover(START + 6), Answer::At(Some(START + 4)), "the unit on a byte"),
+        (
+            Ask::Cell(key(START + 4, Kind::Unit, 0)),
+            Answer::Cell(unit),
+            "a unit",
+        ),
+        (
+            Ask::Cell(key(START, Kind::Block, 0)),
+            Answer::Cell(block),
+            "a block without its bytes",
+        ),
+        (
+            Ask::Cell(key(START, Kind::Func, 0)),
+            Answer::Cell(None),
+            "no function",
+        ),
+        (
+            Ask::Cover(START + 6),
+            Answer::At(Some(START + 4)),
+            "the unit on a byte",
+        ),
         (Ask::Cover(START + 8), Answer::At(None), "a free byte"),
-        (Ask::Block(START + 15), Answer::At(Some(START)), "the block around a byte"),
-        (Ask::Bytes(START + 14, 3), Answer::Bytes(None), "bytes past the block"),
-        (Ask::To(START + 12, RefClass::Call), Answer::Yes(true), "a call to it"),
-        (Ask::From(START + 4), Answer::Refs(calls), "the references from it"),
+        (
+            Ask::Block(START + 15),
+            Answer::At(Some(START)),
+            "the block around a byte",
+        ),
+        (
+            Ask::Bytes(START + 14, 3),
+            Answer::Bytes(None),
+            "bytes past the block",
+        ),
+        (
+            Ask::To(START + 12, RefClass::Call),
+            Answer::Yes(true),
+            "a call to it",
+        ),
+        (
+            Ask::From(START + 4),
+            Answer::Refs(calls),
+            "the references from it",
+        ),
     ] {
         assert!(rt; answers(alloc, &program, ask, said)?, "{row}");
     }

@@ -7,3 +7,6 @@ pub mod Growing
 pub mod ReachWalks
 pub mod CodeAddresses
 mod Listings
+pub mod Told
+mod Candidates
+mod Sparing

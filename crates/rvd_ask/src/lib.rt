@@ -13,7 +13,11 @@
 //! the order of items, `Forms` which answers have the form of an ask, and `Answers` what a program
 //! answers and when reads hold of it. `Flow`, `Refs`, `Funcs`, `Body` and `Strings` have the rules of
 //! the analyzers with what they ask, over `Places` and `Reach`; `Rules` has them all for an item.
-//! `Promise` has what a proposal promises, and `Wake` which items a change may unsettle.
+//! `Promise` has what a proposal promises, `Wake` which items a change may unsettle, and `Unsettled`
+//! these items as lists.
+//!
+//! Four laws say what the definitions are good for: [`reach_law`], [`listing_law`], [`candidate_law`] and
+//! [`sparing_law`]. The lemmas that an analyzer needs on its reads stand in `proofs/Told.antt`.
 #![tactic(auto)]
 
 mod answers;
@@ -27,7 +31,7 @@ mod views;
 pub use answers::{Answer, RefList};
 pub use asks::{Analyzer, Ask, Item};
 pub use items::Items;
-pub use laws::{listing_law, reach_law};
+pub use laws::{candidate_law, listing_law, reach_law, sparing_law};
 pub use proposals::{Proposal, Rule};
 pub use sameness::same;
 pub use std::alloc::AllocError as OutOfMemory;
