@@ -1,6 +1,7 @@
--- Asks with a program's answers. Use `hold-told`, `are_reads-told` and `are_asks-told` for what such reads are; `hold_left`,
--- `hold_right` and `when_true` to take reads apart that hold of another program; and `same_at`, `same_cell`, `same_yes`,
--- `same_bytes`, `same_refs` and `same_test` for what that program then answers.
+-- Asks with a program's answers. Use `hold-told`, `are_reads-told` and `are_asks-told` for what such reads are, and
+-- `same_asks` for reads whose asks are a list; `hold_left`, `hold_right` and `when_true` to take reads apart that hold of
+-- another program; and `same_at`, `same_cell`, `same_yes`, `same_bytes`, `same_refs` and `same_test` for what that program
+-- then answers.
 use Rattle.std.proofs.Common.{◌≡◌, ℕ, ◌+◌, ◌-◌, ◌≤◌, Bool, true, false, ◌&&◌, List, [], ◌∷◌, ◌++◌, length, map, take, drop, Option, Some, None, refl, sym, ap, ◌∙◌, subst, arith}
 use Rattle.std.specs.Prelude.{Contains, find, nat_lt, nat_le, ◌==◌}
 use Rattle.std.specs.Option.{option_and_then}
@@ -15,6 +16,7 @@ use Rattle.rvd_fact.specs.Program.{Program}
 use Rattle.rvd_fact.specs.Memory.{bytes_in, surrounds, block_len}
 use Rattle.rvd_ask.specs.declared.asks.Ask.{Ask}
 use Rattle.rvd_ask.specs.declared.asks.Ask.TheVariants as ask
+use Rattle.rvd_ask.specs.declared.answers.Answer.{Answer}
 use Rattle.rvd_ask.specs.declared.answers.Answer.TheVariants as answer
 use Rattle.rvd_ask.specs.Answers.{ans, plain_cell, told, only_if, Hold, IsSame}
 use Rattle.rvd_ask.specs.Forms.{has_form}
@@ -33,9 +35,13 @@ pub hold-told : (S : Program) (qs : List Ask) → Hold S (told S qs)
 hold-told S [] = tt
 hold-told S (q ∷ qs) = (refl, hold-told S qs)
 
+-- reads that ask these in order ask just these
+pub same_asks : (reads : List (Ask × Answer)) (qs : List Ask) → map (λ r. r.0) reads ≡ qs → AreAsks reads qs
+same_asks reads qs same q = (subst (λ ps. Contains ps q) same, subst (λ ps. Contains ps q) (sym same))
+
 -- they ask just these
 pub are_asks-told : (S : Program) (qs : List Ask) → AreAsks (told S qs) qs
-are_asks-told S qs q = (subst (λ ps. Contains ps q) (asks-told S qs), subst (λ ps. Contains ps q) (sym (asks-told S qs)))
+are_asks-told S qs = same_asks (told S qs) qs (asks-told S qs)
 
 -- bytes are as many as are asked for
 bytes_form : (start a n : ℕ) (v : Value) → start ≤ a → has_form (ask.Bytes a n) (answer.Bytes (bytes_in start a n v)) ≡ true
