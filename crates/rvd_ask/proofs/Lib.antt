@@ -10,3 +10,4 @@ mod Listings
 pub mod Told
 mod Candidates
 mod Sparing
+mod GeneratedRows

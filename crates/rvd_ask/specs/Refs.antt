@@ -82,7 +82,9 @@ computed S y i =
 -- the reference is added where a block has the target and the slot has no cell
 abbrev pub slot_changes : Program → ℕ → ℕ → Option (RefClass × ℕ) → List Change
 slot_changes S y slot None = []
-slot_changes S y slot (Some r) = if is_some (block S r.1) && is_none (cell_at S (ref_key y slot)) then addition (ref_key y slot) (Ref r.1 r.0) ∷ [] else []
+slot_changes S y slot (Some r) =
+    if is_some (block S r.1) && is_none (cell_at S (ref_key y slot)) then addition (ref_key y slot) (Ref r.1 r.0) ∷ []
+    else []
 
 abbrev pub slot_asks : Program → ℕ → ℕ → Option (RefClass × ℕ) → List Ask
 slot_asks S y slot None = []

@@ -53,7 +53,9 @@ string_len S t = long_enough (text_len 255 (tail S t))
 -- the unit is added where no present unit has one of the bytes and no cell is at Unit t
 abbrev pub string_changes : Program → ℕ → Option ℕ → List Change
 string_changes S t None = []
-string_changes S t (Some len) = if is_free S t len && is_none (cell_at S (unit_key t)) then addition (unit_key t) (Plain (Str len)) ∷ [] else []
+string_changes S t (Some len) =
+    if is_free S t len && is_none (cell_at S (unit_key t)) then addition (unit_key t) (Plain (Str len)) ∷ []
+    else []
 
 -- the rule of strings
 unfoldable pub strings_rule : Program → ℕ → List Change

@@ -195,7 +195,9 @@ item a at = record { analyzer = a; at = at }
 
 -- what is unsettled after a change and isn't woken by it was unsettled before
 abbrev pub WakeLaw : Analyzer → Type 0
-WakeLaw a = (S : Program) (c : Change) (at : ℕ) → at < 2 ^ 32 → Leads S c → wakes (applied S c) c (item a at) ≡ false → rule S (item a at) ≡ [] → rule (applied S c) (item a at) ≡ []
+WakeLaw a =
+    (S : Program) (c : Change) (at : ℕ) → at < 2 ^ 32 → Leads S c → wakes (applied S c) c (item a at) ≡ false
+    → rule S (item a at) ≡ [] → rule (applied S c) (item a at) ≡ []
 
 -- what is unsettled is a candidate
 abbrev pub CandidateLaw : Analyzer → Type 0
