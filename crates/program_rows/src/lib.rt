@@ -1,4 +1,4 @@
-//! Worked rows on small programs, as tests: which changes fit, what look-ups answer, and how addresses, units and facts
+//! Worked rows on small programs, as tests: which changes fit, what look-ups and asks answer, and how addresses, units and facts
 //! are named and written.
 #![tactic(auto)]
 

@@ -1,3 +1,4 @@
+use rvd_ask::{Answer, Ask, RefList, View, answer_to, same};
 use rvd_fact::{Addr, Bytes, Cell, Change, Form, Key, Kind, Perm, RefClass, Source, Text, Value};
 use rvd_listing::{primary_name, push_name, unit_at, unit_line};
 use rvd_program::Program;
@@ -171,6 +172,68 @@ fn look_ups_answer_from_the_facts(rt: HostRuntime) -> Result<(), Fail> {
         program.apply(&gone)?;
     }
     assert_eq!(rt; unit_at(&program, START), None);
+    Ok(())
+}
+
+// Whether a view's answer to an ask is the same as this one.
+fn answers<V: View>(alloc: Global, view: &V, ask: Ask, said: Answer) -> Result<bool, AllocError> {
+    let answer = answer_to(alloc, view, &ask)?;
+    Ok(same(&answer, &said))
+}
+
+#[test]
+fn a_program_answers_asks(rt: HostRuntime) -> Result<(), Fail> {
+    let alloc = rt.alloc();
+    let program = small(alloc)?;
+    let call = (0u8, RefClass::Call, START + 12);
+    let calls = RefList::of(alloc, Vec::from_array(alloc, [call])?)?;
+    let unit = by_user(Value::Code(0x80_00ef));
+    let block = by_user(room(16, Some(Bytes::of(alloc, Vec::new(alloc))?)));
+    for (ask, said, row) in [
+        (
+            Ask::Cell(key(START + 4, Kind::Unit, 0)),
+            Answer::Cell(unit),
+            "a unit",
+        ),
+        (
+            Ask::Cell(key(START, Kind::Block, 0)),
+            Answer::Cell(block),
+            "a block without its bytes",
+        ),
+        (
+            Ask::Cell(key(START, Kind::Func, 0)),
+            Answer::Cell(None),
+            "no function",
+        ),
+        (
+            Ask::Cover(START + 6),
+            Answer::At(Some(START + 4)),
+            "the unit on a byte",
+        ),
+        (Ask::Cover(START + 8), Answer::At(None), "a free byte"),
+        (
+            Ask::Block(START + 15),
+            Answer::At(Some(START)),
+            "the block around a byte",
+        ),
+        (
+            Ask::Bytes(START + 14, 3),
+            Answer::Bytes(None),
+            "bytes past the block",
+        ),
+        (
+            Ask::To(START + 12, RefClass::Call),
+            Answer::Yes(true),
+            "a call to it",
+        ),
+        (
+            Ask::From(START + 4),
+            Answer::Refs(calls),
+            "the references from it",
+        ),
+    ] {
+        assert!(rt; answers(alloc, &program, ask, said)?, "{row}");
+    }
     Ok(())
 }
 

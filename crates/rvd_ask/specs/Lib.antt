@@ -1,2 +1,14 @@
 pub mod Order
 pub mod Forms
+pub mod Answers
+pub mod Places
+pub mod Flow
+pub mod Refs
+pub mod Funcs
+pub mod Reach
+pub mod Body
+pub mod Strings
+pub mod Rules
+pub mod Promise
+pub mod Wake
+pub mod Unsettled

@@ -2,7 +2,7 @@
 //!
 //! * [`Program`] is the map. It is made by `empty` and `copy`; its cells are read by `cell` and `next_cell`, its memory
 //!   and units by `block`, `bytes` and `cover`, and its references by `has_ref_to` and `refs_from`. `fits` tells whether
-//!   changes may be applied, `apply` applies them, and `revert` undoes them.
+//!   changes may be applied, `apply` applies them, and `revert` undoes them. As a `View` it can be asked.
 //!
 //! A program is valid at every moment. The cells stand in a table in the order of their keys, so that a cell is found
 //! in a time that grows as the logarithm of their number, and a program is built from facts in the order of their keys
@@ -22,6 +22,7 @@ mod same;
 mod spans;
 mod suiting;
 mod valid_map;
+mod views;
 
 pub use kept::Kept;
 pub use std::alloc::AllocError as OutOfMemory;
