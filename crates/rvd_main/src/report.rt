@@ -50,12 +50,27 @@ fn report_damage(rt: &impl Eprint, file: &str, refusal: ElfError) -> io::Result<
     }
 }
 
+// Lines are those of the last word's file, and the bytes of a file are those of one of the files.
+fn report_size(rt: &impl Eprint, words: &[String], what: What, count: u64) -> io::Result<()> {
+    let (file, events, limit) = (word_at(words, 1), word_at(words, 2), limit_of(what));
+    match what {
+        What::Lines => eprintln!(rt; "rvd: {events}: too large: {count} {limit}"),
+        What::FileBytes if !events.is_empty() => {
+            eprintln!(rt; "rvd: {file} or {events}: too large: more than {count} bytes")
+        }
+        What::FileBytes => eprintln!(rt; "rvd: {file}: too large: more than {count} bytes"),
+        _ => eprintln!(rt; "rvd: {file}: too large: {count} {limit}"),
+    }
+}
+
 /// Prints one line about an ending other than Done to standard error.
 pub fn report(rt: &impl Eprint, words: &[String], ending: &Ending) -> io::Result<()> {
     let file = word_at(words, 1);
     match *ending {
         Ending::Done => Ok(()),
-        Ending::Usage => eprintln!(rt; "usage: rvd show FILE, or rvd list FILE"),
+        Ending::Usage => {
+            eprintln!(rt; "usage: rvd show FILE, rvd list FILE, or rvd play FILE EVENTS")
+        }
         Ending::ReadFault { word } => {
             let file = word_at(words, word as usize);
             eprintln!(rt; "rvd: {file}: can't be read")
@@ -68,14 +83,7 @@ pub fn report(rt: &impl Eprint, words: &[String], ending: &Ending) -> io::Result
         }
         Ending::WriteFault => eprintln!(rt; "rvd: standard output can't be written"),
         Ending::Memory => eprintln!(rt; "rvd: out of memory"),
-        Ending::TooLarge {
-            what: What::FileBytes,
-            count,
-        } => { eprintln!(rt; "rvd: {file}: too large: more than {count} bytes") }
-        Ending::TooLarge { what, count } => {
-            let limit = limit_of(what);
-            eprintln!(rt; "rvd: {file}: too large: {count} {limit}")
-        }
+        Ending::TooLarge { what, count } => report_size(rt, words, what, count),
         Ending::Differs { line } => eprintln!(rt; "rvd: the journal differs at line {line}"),
     }
 }
