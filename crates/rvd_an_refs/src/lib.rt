@@ -1,0 +1,15 @@
+//! The analyzer of references: where instructions lead, and which addresses they compute.
+//!
+//! * [`RefsRule`] is the rule of references. It proposes, for an instruction, a reference to the target that its
+//!   immediate tells (JAL and branches), and one to the address that it computes with the upper value that LUI or
+//!   AUIPC just before it leaves in its register (ADDI, loads, stores and JALR).
+//!
+//! The rule and what it asks are defined in rvd_ask (`Refs`).
+#![tactic(auto)]
+
+mod asking;
+mod rule;
+mod targets;
+
+pub use rule::RefsRule;
+pub use std::alloc::AllocError as OutOfMemory;
