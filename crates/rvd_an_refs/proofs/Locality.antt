@@ -1,6 +1,6 @@
 -- Programs that answer alike to what the rule of references asks on one of them have the same changes by it: `same_rule`. Use `keeps_promise`
 -- for a proposal by these asks.
-use Rattle.std.proofs.Common.{◌≡◌, ℕ, Bool, true, false, cond, ◌&&◌, List, [], ◌∷◌, ◌++◌, Option, Some, None, refl, sym, ap, ◌∙◌, subst}
+use Rattle.std.proofs.Common.{◌≡◌, ℕ, true, cond, List, [], ◌∷◌, ◌++◌, Option, Some, None, refl, sym, ap, ◌∙◌, subst}
 use Rattle.std.specs.Prelude.{is_none, is_some}
 use Rattle.std.specs.Option.{option_and_then, option_map}
 use Rattle.rvd_decode.specs.Instruction.{Instruction}
@@ -57,7 +57,7 @@ same_slot P S y slot (Some r) h =
     (and_then (is_some (block P r.1)) (is_some (block S r.1)) (is_none (cell_at P (ref_key y slot))) (is_none (cell_at S (ref_key y slot))) there free)
 
 -- what an instruction of a class computes, by the instruction before it
-abbrev computed_by : ℕ → Instruction → RefClass → Option Instruction → Option (RefClass × ℕ)
+abbrev pub computed_by : ℕ → Instruction → RefClass → Option Instruction → Option (RefClass × ℕ)
 computed_by y i class before = option_map (λ upper. (class, computed_address i.op (moved upper i.imm))) (option_and_then (upper_for i.rs1 (word_before y)) before)
 
 abbrev computed_in : Program → ℕ → Instruction → Option RefClass → Option (RefClass × ℕ)
