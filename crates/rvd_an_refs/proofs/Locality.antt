@@ -17,10 +17,11 @@ use Rattle.rvd_ask.specs.declared.asks.Ask.{Ask}
 use Rattle.rvd_ask.specs.declared.asks.Ask.TheVariants as ask
 use Rattle.rvd_ask.specs.Answers.{Hold, only_if, plain_cell, plain_value, told}
 use Rattle.rvd_ask.specs.Places.{addition, cell_instruction, instruction_at, moved, ref_key, value_instruction, word_before}
-use Rattle.rvd_ask.specs.Refs.{computed, computed_address, computed_class, direct, instruction_asks, instruction_changes, refs_asks, refs_rule, slot_asks, slot_changes, upper_for}
+use Rattle.rvd_ask.specs.Refs.{computed_address, computed_class, direct, instruction_asks, instruction_changes, refs_asks, refs_rule, slot_asks, slot_changes, upper_for}
 use Rattle.rvd_ask.specs.Promise.{are_reads, KeepsPromise}
 use Rattle.rvd_ask.specs.Rules.{rule}
 use Rattle.rvd_ask.specs.Wake.{item}
+use Rattle.rvd_an_refs.specs.Slots.{computed_asks}
 use Rattle.rvd_ask.proofs.Told.{and_then, are_reads-told, hold_left, hold_right, same_at, same_test, when_true}
 
 plain_code : (v : Value) → value_instruction (plain_value v) ≡ value_instruction v
@@ -74,9 +75,8 @@ same_computed P S y i (Some class) h =
 same_slots : (P S : Program) (y : ℕ) (o : Option Instruction) → Hold S (told P (instruction_asks P y o)) → instruction_changes P y o ≡ instruction_changes S y o
 same_slots P S y None h = refl
 same_slots P S y (Some i) h =
-    let computed_asks = only_if (is_some (computed_class i.op i.rd)) (ask.Cell (unit_key (word_before y)) ∷ slot_asks P y 1 (computed P y i)) in
-    let target = same_slot P S y 0 (direct y i) (hold_left P S (slot_asks P y 0 (direct y i)) computed_asks h) in
-    let address = same_computed P S y i (computed_class i.op i.rd) (hold_right P S (slot_asks P y 0 (direct y i)) computed_asks h) in
+    let target = same_slot P S y 0 (direct y i) (hold_left P S (slot_asks P y 0 (direct y i)) (computed_asks P y i) h) in
+    let address = same_computed P S y i (computed_class i.op i.rd) (hold_right P S (slot_asks P y 0 (direct y i)) (computed_asks P y i) h) in
     λ n. target n ++ address n
 
 -- the changes are the same
@@ -93,3 +93,7 @@ keeps_promise P y reads changes heard found = record {
   reads = ap are_reads heard ∙ are_reads-told P (refs_asks P y);
   kept = λ S valid h. same_rule P S y (subst (Hold S) heard h) ∙ sym found;
 }
+
+-- what was added to an empty list
+pub from_empty : {A : Type 0} (old now added : List A) → old ≡ [] → now ≡ old ++ added → now ≡ added
+from_empty old now added empty h = h ∙ ap (λ xs. xs ++ added) empty

@@ -1,9 +1,10 @@
 ghost use Rattle.std.specs.Prelude.{◌≡◌, ◌++◌, ◌∷◌, [], IfOk, OnOk};
 ghost use Rattle.std.specs.Option.{option_copied};
 ghost use Rattle.rvd_fact.specs.Program.{cell_at};
-ghost use Rattle.rvd_fact.specs.Memory.{block, unit_key};
+ghost use Rattle.rvd_fact.specs.Memory.{block};
 ghost use Rattle.rvd_ask.specs.Answers.{told};
 ghost use Rattle.rvd_ask.specs.Places.{cell_instruction, instruction_at};
+ghost use Rattle.rvd_an_refs.specs.Slots.{unit_asks};
 
 use rvd_ask::{Answer, Ask, View};
 use rvd_decode::{Insn, decode};
@@ -29,7 +30,8 @@ pub fn ask_cell<'a, V: View>(
     key: Key,
 ) -> Result<Option<&'a Cell>, AllocError>
     ensures answer { IfOk result (λ cell. option_copied cell ≡ cell_at (V.program view.now) key) }
-    ensures reads { OnOk result (reads.new.items ≡ reads.old.items ++ told (V.program view.now) (Ask.Cell key ∷ [])) }
+    ensures reads { let P = V.program view.now in
+        OnOk result (reads.new.items ≡ reads.old.items ++ told P (Ask.Cell key ∷ [])) }
 {
     let cell = view.cell(key);
     let copy = copy_of(cell)?;
@@ -40,7 +42,8 @@ pub fn ask_cell<'a, V: View>(
 /// Asks which block is around an address, and keeps the answer.
 pub fn ask_block<V: View>(view: &V, reads: &mut Reads, at: Addr) -> Result<Option<Addr>, AllocError>
     ensures answer { IfOk result (λ start. start ≡ block (V.program view.now) at) }
-    ensures reads { OnOk result (reads.new.items ≡ reads.old.items ++ told (V.program view.now) (Ask.Block at ∷ [])) }
+    ensures reads { let P = V.program view.now in
+        OnOk result (reads.new.items ≡ reads.old.items ++ told P (Ask.Block at ∷ [])) }
 {
     let start = view.block(at);
     reads.push((Ask::Block(at), Answer::At(start)))?;
@@ -63,7 +66,8 @@ pub fn ask_instruction<V: View>(
     at: Addr,
 ) -> Result<Option<Insn>, AllocError>
     ensures answer { IfOk result (λ insn. insn ≡ instruction_at (V.program view.now) at) }
-    ensures reads { OnOk result (reads.new.items ≡ reads.old.items ++ told (V.program view.now) (Ask.Cell (unit_key at) ∷ [])) }
+    ensures reads { let P = V.program view.now in
+        OnOk result (reads.new.items ≡ reads.old.items ++ told P (unit_asks at)) }
 {
     let key = Key {
         at,

@@ -5,7 +5,7 @@
 //!   AUIPC just before it leaves in its register (ADDI, loads, stores and JALR).
 //!
 //! The rule and what it asks are defined in rvd_ask (`Refs`), and so is which changes wake it (`Wake`). `specs/Fitting.antt`
-//! says that the rule's changes may be applied.
+//! says that the rule's changes may be applied, and `specs/Slots.antt` names the parts of what it asks.
 //!
 //! Two laws say what the rule is good for: [`wake_law`] and [`refs_fit`].
 #![tactic(auto)]

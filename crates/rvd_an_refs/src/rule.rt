@@ -1,26 +1,25 @@
-ghost use Rattle.std.specs.Prelude.{◌≡◌, ◌&&◌, ◌++◌, ◌∷◌, [], Some, is_none, is_some, map, IfOk, OnOk};
-ghost use Rattle.rvd_fact.specs.Memory.{block, unit_key};
-ghost use Rattle.rvd_fact.specs.Program.{cell_at};
-ghost use Rattle.rvd_ask.specs.Answers.{Hold, only_if, told};
+ghost use Rattle.std.specs.Prelude.{◌≡◌, ◌++◌, Some, map, IfOk, OnOk};
+ghost use Rattle.rvd_ask.specs.Answers.{Hold, told};
 ghost use Rattle.rvd_ask.specs.Places.{addition, word_before};
 ghost use Rattle.rvd_ask.specs.Promise.{AreAsks};
-ghost use Rattle.rvd_ask.specs.Refs.{direct, computed, computed_class, upper_before, slot_changes, slot_asks, instruction_changes, instruction_asks, refs_rule, refs_asks};
+ghost use Rattle.rvd_ask.specs.Refs.{computed, upper_before, slot_changes, slot_asks, instruction_changes, instruction_asks, refs_rule, refs_asks};
 ghost use Rattle.rvd_ask.specs.Rules.{asks};
+ghost use Rattle.rvd_an_refs.specs.Slots.{computed_asks, is_lacking, lacking_asks, unit_asks};
 
 use crate::asking::{Reads, ask_block, ask_cell, ask_instruction};
 use crate::targets::{computed, computed_class, direct, upper_for};
-use rvd_ask::{Analyzer, Ask, Item, Proposal, Rule, View};
+use rvd_ask::{Analyzer, Item, Proposal, Rule, View};
 use rvd_decode::Insn;
 use rvd_fact::{Addr, Cell, Change, Key, Kind, RefClass, Source, Value};
 use std::alloc::{AllocError, Global};
 
-/// How many bytes an instruction takes.
+// How many bytes an instruction takes.
 const WORD: u32 = 4;
 
-/// The slot of the target that an immediate tells.
+// The slot of the target that an immediate tells.
 const TARGET_SLOT: u8 = 0;
 
-/// The slot of the address that is computed.
+// The slot of the address that is computed.
 const COMPUTED_SLOT: u8 = 1;
 
 fn addition(key: Key, value: Value) -> Change
@@ -36,17 +35,13 @@ fn addition(key: Key, value: Value) -> Change
     }
 }
 
-// Whether a slot is free for a reference to a target.
-fn is_wanted<V: View>(
-    view: &V,
-    reads: &mut Reads,
-    slot: Key,
-    target: Addr,
-) -> Result<bool, AllocError>
-    ensures answer { IfOk result (λ wanted. wanted ≡ (is_some (block (V.program view.now) target) && is_none (cell_at (V.program view.now) slot))) }
-    ensures reads { OnOk result (reads.new.items ≡ reads.old.items ++ told (V.program view.now) (Ask.Block target ∷ only_if (is_some (block (V.program view.now) target)) (Ask.Cell slot ∷ []))) }
+// Whether a slot lacks a reference to an address.
+fn is_lacking<V: View>(view: &V, reads: &mut Reads, slot: Key, to: Addr) -> Result<bool, AllocError>
+    ensures answer { IfOk result (λ lacking. lacking ≡ is_lacking (V.program view.now) slot to) }
+    ensures reads { let P = V.program view.now in
+        OnOk result (reads.new.items ≡ reads.old.items ++ told P (lacking_asks P slot to)) }
 {
-    if ask_block(view, reads, target)?.is_none() {
+    if ask_block(view, reads, to)?.is_none() {
         return Ok(false);
     }
     let cell = ask_cell(view, reads, slot)?;
@@ -62,8 +57,10 @@ fn fill_slot<V: View>(
     slot: u8,
     reference: Option<(RefClass, Addr)>,
 ) -> Result<(), AllocError>
-    ensures changes { OnOk result (changes.new.items ≡ changes.old.items ++ slot_changes (V.program view.now) at slot reference) }
-    ensures reads { OnOk result (reads.new.items ≡ reads.old.items ++ told (V.program view.now) (slot_asks (V.program view.now) at slot reference)) }
+    ensures changes { let P = V.program view.now in
+        OnOk result (changes.new.items ≡ changes.old.items ++ slot_changes P at slot reference) }
+    ensures reads { let P = V.program view.now in
+        OnOk result (reads.new.items ≡ reads.old.items ++ told P (slot_asks P at slot reference)) }
 {
     let Some((class, to)) = reference else {
         return Ok(());
@@ -73,7 +70,7 @@ fn fill_slot<V: View>(
         kind: Kind::Ref,
         sub: slot,
     };
-    if is_wanted(view, reads, key, to)? {
+    if is_lacking(view, reads, key, to)? {
         changes.push(addition(key, Value::Ref { to, class }))?;
     }
     Ok(())
@@ -93,7 +90,8 @@ fn ask_upper<V: View>(
     register: u8,
 ) -> Result<Option<Addr>, AllocError>
     ensures answer { IfOk result (λ upper. upper ≡ upper_before (V.program view.now) at register) }
-    ensures reads { OnOk result (reads.new.items ≡ reads.old.items ++ told (V.program view.now) (Ask.Cell (unit_key (word_before at)) ∷ [])) }
+    ensures reads { let P = V.program view.now in
+        OnOk result (reads.new.items ≡ reads.old.items ++ told P (unit_asks (word_before at))) }
 {
     let before = word_before(at);
     match ask_instruction(view, reads, before)? {
@@ -110,9 +108,10 @@ fn fill_computed<V: View>(
     at: Addr,
     insn: &Insn,
 ) -> Result<(), AllocError>
-    ensures changes { OnOk result (changes.new.items ≡ changes.old.items ++ slot_changes (V.program view.now) at 1 (computed (V.program view.now) at insn.now)) }
+    ensures changes { let P = V.program view.now in
+        OnOk result (changes.new.items ≡ changes.old.items ++ slot_changes P at 1 (computed P at insn.now)) }
     ensures reads { let P = V.program view.now in
-        OnOk result (reads.new.items ≡ reads.old.items ++ told P (only_if (is_some (computed_class insn.now.op insn.now.rd)) (Ask.Cell (unit_key (word_before at)) ∷ slot_asks P at 1 (computed P at insn.now)))) }
+        OnOk result (reads.new.items ≡ reads.old.items ++ told P (computed_asks P at insn.now)) }
 {
     let Some(class) = computed_class(insn.op, insn.rd) else {
         return Ok(());
@@ -136,8 +135,10 @@ fn fill_slots<V: View>(
     at: Addr,
     insn: &Insn,
 ) -> Result<(), AllocError>
-    ensures changes { OnOk result (changes.new.items ≡ changes.old.items ++ instruction_changes (V.program view.now) at (Some insn.now)) }
-    ensures reads { OnOk result (reads.new.items ≡ reads.old.items ++ told (V.program view.now) (instruction_asks (V.program view.now) at (Some insn.now))) }
+    ensures changes { let P = V.program view.now in
+        OnOk result (changes.new.items ≡ changes.old.items ++ instruction_changes P at (Some insn.now)) }
+    ensures reads { let P = V.program view.now in
+        OnOk result (reads.new.items ≡ reads.old.items ++ told P (instruction_asks P at (Some insn.now))) }
 {
     fill_slot(view, reads, changes, at, TARGET_SLOT, direct(at, insn))?;
     fill_computed(view, reads, changes, at, insn)
@@ -151,8 +152,10 @@ fn find_references<V: View>(
     changes: &mut Vec<Change>,
     at: Addr,
 ) -> Result<(), AllocError>
-    ensures changes { OnOk result (changes.new.items ≡ changes.old.items ++ refs_rule (V.program view.now) at) }
-    ensures reads { OnOk result (reads.new.items ≡ reads.old.items ++ told (V.program view.now) (refs_asks (V.program view.now) at)) }
+    ensures changes { let P = V.program view.now in
+        OnOk result (changes.new.items ≡ changes.old.items ++ refs_rule P at) }
+    ensures reads { let P = V.program view.now in
+        OnOk result (reads.new.items ≡ reads.old.items ++ told P (refs_asks P at)) }
 {
     match ask_instruction(view, reads, at)? {
         None => Ok(()),

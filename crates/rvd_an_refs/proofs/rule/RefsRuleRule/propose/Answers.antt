@@ -1,25 +1,28 @@
-use Rattle.std.proofs.Common.{◌≡◌, ◌++◌, map, sym, ap, ◌∙◌, subst}
+use Rattle.std.proofs.Common.{◌≡◌, map, sym, ap, ◌∙◌, subst}
 use Rattle.rvd_ask.specs.Answers.{Hold, told}
 use Rattle.rvd_ask.specs.Promise.{Proposed}
 use Rattle.rvd_ask.specs.Refs.{refs_asks, refs_rule}
 use Rattle.rvd_ask.specs.Rules.{asks}
 use Rattle.rvd_ask.proofs.Told.{asks-told, hold-told, same_asks}
-use Rattle.rvd_an_refs.proofs.Locality.{keeps_promise}
+use Rattle.rvd_an_refs.proofs.Locality.{from_empty, keeps_promise}
 use Rattle.rvd_an_refs.proofs.rule.RefsRuleRule.propose.Given as given
 use Rattle.rvd_an_refs.proofs.rule.RefsRuleRule.propose.Goals as goal
 
 pub of-requires : goal.of-requires
 of-requires g c =
     let P = g.V.View.program c.args.view.now in
-    keeps_promise P c.args.at c.find_references.new.reads.items c.find_references.new.changes.items
-    (c.in_ok-find_references.ensures.reads ∙ ap (λ rs. rs ++ told P (refs_asks P c.args.at)) c.new-reads.ensures.items)
-    (c.in_ok-find_references.ensures.changes ∙ ap (λ cs. cs ++ refs_rule P c.args.at) c.new-changes.ensures.items)
+    let reads = c.find_references.new.reads.items in
+    let changes = c.find_references.new.changes.items in
+    keeps_promise P c.args.at reads changes
+    (from_empty c.new-reads.result.items reads (told P (refs_asks P c.args.at)) c.new-reads.ensures.items c.in_ok-find_references.ensures.reads)
+    (from_empty c.new-changes.result.items changes (refs_rule P c.args.at) c.new-changes.ensures.items c.in_ok-find_references.ensures.changes)
 
 -- the proposal's reads
 heard : (g : given.Over) (c : goal.After-of g) → c.of.result.reads ≡ told (g.V.View.program c.args.view.now) (refs_asks (g.V.View.program c.args.view.now) c.args.at)
 heard g c =
     let P = g.V.View.program c.args.view.now in
-    ap (λ (p : Proposed). p.reads) c.of.ensures ∙ (c.in_ok-find_references.ensures.reads ∙ ap (λ rs. rs ++ told P (refs_asks P c.args.at)) c.new-reads.ensures.items)
+    ap (λ (p : Proposed). p.reads) c.of.ensures
+    ∙ from_empty c.new-reads.result.items c.find_references.new.reads.items (told P (refs_asks P c.args.at)) c.new-reads.ensures.items c.in_ok-find_references.ensures.reads
 
 pub returns-clause-hold : goal.returns-clause-hold
 returns-clause-hold g c =
