@@ -6,6 +6,7 @@ use Rattle.std.specs.Option.{option_and_then, option_map}
 use Rattle.std.proofs.lemmas.Bool.{and_parts, cond_both, false≢true}
 use Rattle.std.proofs.lemmas.Bool.Decides.{nat_tests}
 use Rattle.std.proofs.lemmas.List.{append-nil}
+use Rattle.std.proofs.lemmas.Option.{same_Some}
 use Rattle.rvd_decode.specs.declared.insn.Op.{Op}
 use Rattle.rvd_decode.specs.declared.insn.Op.TheVariants as op
 use Rattle.rvd_decode.specs.Instruction.{Instruction}
@@ -57,9 +58,6 @@ none_there : (o : Option Cell) → is_none o ≡ true → o ≡ None
 none_there None h = refl
 none_there (Some c) h = absurd (false≢true h)
 
-same_some : (c d : Cell) → Some c ≡ Some d → c ≡ d
-same_some c d h = cc
-
 abbrev ref_cell : RefClass × ℕ → Cell
 ref_cell r = record { value = Ref r.1 r.0; source = Analysis }
 
@@ -68,7 +66,7 @@ valid_with : (T : Program) (y slot : ℕ) (r : RefClass × ℕ) → IsValid T �
 valid_with T y slot r valid from in_slots to =
     let suited : suits (ref_key y slot) (ref_cell r) ≡ true = λ i. from i && (in_slots i && (to i && true)) in
     valid_placed T (ref_key y slot) (Some (ref_cell r)) valid (λ e. absurd (omega (arith, e))) (λ e. absurd (omega (arith, e)))
-    (λ c h. ap (suits (ref_key y slot)) (sym (same_some (ref_cell r) c h)) ∙ suited)
+    (λ c h. ap (suits (ref_key y slot)) (sym (same_Some (ref_cell r) c h)) ∙ suited)
 
 -- the change of a slot that the program S has, with what comes behind it, on a program T with the same slot
 slot_fits : (S T : Program) (y slot : ℕ) (o : Option (RefClass × ℕ)) (cs : List Change) → IsValid T → cell_at T (ref_key y slot) ≡ cell_at S (ref_key y slot)
