@@ -1,0 +1,3 @@
+mod Locality
+mod Waking
+mod Fitting
