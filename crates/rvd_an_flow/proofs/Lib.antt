@@ -1,2 +1,4 @@
-pub mod Locality
 pub mod Steps
+pub mod Locality
+pub mod NewUnits
+pub mod Fitting
