@@ -23,7 +23,7 @@ use Rattle.rvd_ask.specs.Rules.{rule}
 use Rattle.rvd_an_flow.specs.Laws.{FlowFits}
 use Rattle.rvd_an_flow.proofs.NewUnits.{other_block, other_unit, same_block, same_cover, same_word, valid_unit}
 
-none_there : (o : Option Cell) → is_none o ≡ true → o ≡ None
+pub none_there : (o : Option Cell) → is_none o ≡ true → o ≡ None
 none_there None h = refl
 none_there (Some c) h = absurd (false≢true h)
 
@@ -60,7 +60,7 @@ end_low b (Plain f) up h = absurd (omega (arith, up))
 end_low b (Ref to class) up h = absurd (omega (arith, up))
 end_low b Gone up h = absurd (omega (arith, up))
 
-whole_at : (k : Key) (c : Cell) → suits k c ≡ true → is_whole k.at c.value ≡ true
+pub whole_at : (k : Key) (c : Cell) → suits k c ≡ true → is_whole k.at c.value ≡ true
 whole_at k c h =
     let behind_kind = (and_parts (is_of k.kind c.value) _ h).1 in
     let behind_address = (and_parts (is_address k.at) _ behind_kind).1 in
@@ -97,13 +97,13 @@ home_of : (S : Program) (t : ℕ) (o : Option ℕ) → IsValid S → block S t �
 home_of S t None valid here h = absurd (false≢true h)
 home_of S t (Some b) valid here h = home_in S t b (cell_at S (block_key b)) valid refl (block_low S t b here) h
 
-record Opened (S : Program) (t : ℕ) : Type 0 where
-  aligned : t % 4 ≡ 0
-  executable : is_executable S t ≡ true
-  free : is_free S t 4 ≡ true
-  empty : cell_at S (unit_key t) ≡ None
+pub record Opened (S : Program) (t : ℕ) : Type 0 where
+  pub aligned : t % 4 ≡ 0
+  pub executable : is_executable S t ≡ true
+  pub free : is_free S t 4 ≡ true
+  pub empty : cell_at S (unit_key t) ≡ None
 
-opened : (S : Program) (t : ℕ) → openable S t ≡ true → Opened S t
+pub opened : (S : Program) (t : ℕ) → openable S t ≡ true → Opened S t
 unfolding openable
 opened S t h =
     let aligned = and_parts (t % 4 == 0) (is_executable S t && (is_free S t 4 && is_none (cell_at S (unit_key t)))) h in
@@ -111,12 +111,12 @@ opened S t h =
     let free = and_parts (is_free S t 4) (is_none (cell_at S (unit_key t))) executable.1 in
     record { aligned = eqb-true (t % 4) 0 aligned.0; executable = executable.0; free = free.0; empty = none_there (cell_at S (unit_key t)) free.1 }
 
-opened-back : (S : Program) (t : ℕ) → Opened S t → openable S t ≡ true
+pub opened-back : (S : Program) (t : ℕ) → Opened S t → openable S t ≡ true
 unfolding openable
 opened-back S t o = cc
 
 -- ---- no unit has a free byte
-free_at : (S : Program) (n t x : ℕ) → is_free S t n ≡ true → t ≤ x → x < t + n → cover S x ≡ None
+pub free_at : (S : Program) (n t x : ℕ) → is_free S t n ≡ true → t ≤ x → x < t + n → cover S x ≡ None
 free_at S zero t x h low high = absurd (omega (arith, low, high))
 free_at S (suc n) t x h low high =
     let parts = and_parts (is_none (cover S t)) (is_free S (t + 1) n) h in
@@ -132,7 +132,7 @@ none_passes p (e ∷ S) h = elim (p e) as (λ b. option_map (λ (x : Key × Cell
   | false ↦ λ h. none_passes p S h
 ] h
 
-uncovered : (S : Program) (x : ℕ) → cover S x ≡ None → (k : Key) (c : Cell) → cell_at S k ≡ Some c → k.at ≤ x → x < k.at + unit_len c.value → ⊥
+pub uncovered : (S : Program) (x : ℕ) → cover S x ≡ None → (k : Key) (c : Cell) → cell_at S k ≡ Some c → k.at ≤ x → x < k.at + unit_len c.value → ⊥
 uncovered S x none k c here low high =
     both_ways (list_any (covers x) S) (none_passes (covers x) S none)
     (scanned (covers x) S (record { key = k; cell = c; here = here; passes = and_from (nat_le k.at x) _ (le-leb k.at x low) (lt-ltb x (k.at + unit_len c.value) high) }))
