@@ -59,17 +59,13 @@ fn is_free<V: View>(
     ensures answer { IfOk result (λ yes. yes ≡ is_free (V.program view.now) at count) }
     ensures reads { OnOk result (reads.new.items ≡ reads.old.items ++ told (V.program view.now) (free_asks (V.program view.now) at count)) }
 {
-    if count == 0 {
-        return Ok(true);
+    for offset in 0..count {
+        let unit = ask_cover(view, reads, at + offset)?;
+        if unit.is_some() {
+            return Ok(false);
+        }
     }
-    let found = ask_cover(view, reads, at)?;
-    if found.is_some() {
-        return Ok(false);
-    }
-    if count == 1 {
-        return Ok(true);
-    }
-    is_free(view, reads, at + 1, count - 1)
+    Ok(true)
 }
 
 /// Whether an instruction may be put at an address.
