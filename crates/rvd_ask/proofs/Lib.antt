@@ -8,6 +8,9 @@ pub mod ReachWalks
 pub mod CodeAddresses
 mod Listings
 pub mod Told
+pub mod Plain
+pub mod FreeBytes
+pub mod Proposing
 mod Candidates
 mod Sparing
 mod GeneratedRows

@@ -12,3 +12,4 @@ pub mod Rules
 pub mod Promise
 pub mod Wake
 pub mod Unsettled
+pub mod Fitting

@@ -5,6 +5,8 @@
 //! * [`Ask`] is a question to a program, and [`Answer`] what it answers. [`RefList`] lists the
 //!   references from one address. [`same`] tells whether two answers are the same.
 //! * [`View`] is what can be asked: it stands for one valid program. [`answer_to`] is its answer to an ask.
+//! * [`Reads`] is what was asked with the answers: [`ask_cell`] and the calls beside it ask a view and keep what it
+//!   answers. [`addition`] is an analyzer's new fact.
 //! * [`Rule`] is what an analyzer does, and [`Proposal`] what it proposes for an item. Its type keeps a
 //!   promise: whatever valid program the reads of a proposal hold of, the changes of the item's rule
 //!   there are its changes.
@@ -13,15 +15,18 @@
 //! the order of items, `Forms` which answers have the form of an ask, and `Answers` what a program
 //! answers and when reads hold of it. `Flow`, `Refs`, `Funcs`, `Body` and `Strings` have the rules of
 //! the analyzers with what they ask, over `Places` and `Reach`; `Rules` has them all for an item.
-//! `Promise` has what a proposal promises, `Wake` which items a change may unsettle, and `Unsettled`
+//! `Promise` has what a proposal promises, `Fitting` that a rule's changes fit, `Wake` which items a change may unsettle, and `Unsettled`
 //! these items as lists.
 //!
 //! Four laws say what the definitions are good for: [`reach_law`], [`listing_law`], [`candidate_law`] and
-//! [`sparing_law`]. The lemmas that an analyzer needs on its reads stand in `proofs/Told.antt`.
+//! [`sparing_law`]. The lemmas that an analyzer needs on its reads stand in `proofs/`: `Told`, `Plain`, `FreeBytes` and
+//! `Proposing`.
 #![tactic(auto)]
 
 mod answers;
+mod asking;
 mod asks;
+mod cells;
 mod items;
 mod laws;
 mod proposals;
@@ -29,7 +34,9 @@ mod sameness;
 mod views;
 
 pub use answers::{Answer, RefList};
+pub use asking::{Reads, ask_block, ask_bytes, ask_cell, ask_cover, ask_free, ask_refs, ask_to};
 pub use asks::{Analyzer, Ask, Item};
+pub use cells::{addition, is_instruction, is_present};
 pub use items::Items;
 pub use laws::{candidate_law, listing_law, reach_law, sparing_law};
 pub use proposals::{Proposal, Rule};

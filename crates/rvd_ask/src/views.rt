@@ -56,7 +56,7 @@ pub fn answer_to<V: View>(alloc: Global, view: &V, ask: &Ask) -> Result<Answer, 
     }
 }
 
-fn copy_of(cell: Option<&Cell>) -> Result<Option<Cell>, AllocError>
+pub(crate) fn copy_of(cell: Option<&Cell>) -> Result<Option<Cell>, AllocError>
     ensures { IfOk result (λ copy. copy ≡ option_copied cell.entry) }
 {
     match cell {
