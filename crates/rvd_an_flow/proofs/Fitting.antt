@@ -20,7 +20,8 @@ use Rattle.rvd_fact.proofs.Validity.{valid_placed}
 use Rattle.rvd_ask.specs.Places.{addition, error_key, next_word}
 use Rattle.rvd_ask.specs.Flow.{bad_instruction, block_may_hold, cell_may_hold, code_addition, decides, decodes, flow_changes, flow_rule, is_executable, is_free, is_ready, may_hold, openable, run, start_changes, starts, word_falls}
 use Rattle.rvd_ask.specs.Rules.{rule}
-use Rattle.rvd_an_flow.specs.Laws.{FlowFits}
+use Rattle.rvd_ask.specs.declared.asks.Analyzer.TheVariants.{Flow}
+use Rattle.rvd_ask.specs.Fitting.{FittingLaw}
 use Rattle.rvd_an_flow.proofs.NewUnits.{other_block, other_unit, same_block, same_cover, same_word, valid_unit}
 
 pub none_there : (o : Option Cell) → is_none o ≡ true → o ≡ None
@@ -306,6 +307,6 @@ first_fits : (S : Program) (ts : List ℕ) → IsValid S → Fits S (flow_change
 first_fits S [] valid = tt
 first_fits S (t ∷ ts) valid = cond_both (decides S t) (Some t) (first_where (decides S) ts) (λ o. Fits S (flow_changes S o)) (start_fits S t valid) (λ h. first_fits S ts valid)
 
-pub fits : FlowFits
+pub fits : FittingLaw Flow
 unfolding rule flow_rule
 fits S x valid = first_fits S (starts S x) valid

@@ -1,7 +1,7 @@
--- A program that answers the same to what flow asks has the same changes of its rule: `same_rule`. So the changes keep the
--- promise of a proposal: `kept`.
-use Rattle.std.proofs.Common.{◌≡◌, ℕ, zero, suc, ◌+◌, ◌%◌, Bool, true, false, cond, not, ◌&&◌, ◌||◌, List, [], ◌∷◌, ◌++◌, Option, Some, None, refl, sym, ap, ◌∙◌, subst}
-use Rattle.std.specs.Prelude.{is_none, filter_map, map, find, ◌==◌}
+-- A program that answers the same to what flow asks has the same changes of its rule: `same_rule`. So its rule
+-- is `local`.
+use Rattle.std.proofs.Common.{◌≡◌, ℕ, zero, suc, ◌%◌, Bool, true, false, cond, not, ◌&&◌, ◌||◌, List, [], ◌∷◌, ◌++◌, Option, Some, None, refl, sym, ap, ◌∙◌, subst}
+use Rattle.std.specs.Prelude.{is_none, filter_map, find, ◌==◌}
 use Rattle.std.specs.Option.{option_map}
 use Rattle.std.specs.Int.{from_le_bytes, w32}
 use Rattle.std.proofs.lemmas.Bool.{and_parts, cond_both}
@@ -10,20 +10,22 @@ use Rattle.rvd_fact.specs.declared.cells.Cell.{Cell}
 use Rattle.rvd_fact.specs.declared.cells.Change.{Change}
 use Rattle.rvd_fact.specs.declared.values.Value.{Value}
 use Rattle.rvd_fact.specs.declared.values.Value.TheVariants.{Block, Mark, Func, Body, Symbol, Comment, Bookmark, Code, Plain, Ref, Gone}
-use Rattle.rvd_fact.specs.Program.{Program, cell_at, is_gone, is_present}
-use Rattle.rvd_fact.specs.Memory.{block_key, func_key, unit_key, block, bytes, cover, has_instruction, is_code, is_instruction, refs_from, word}
+use Rattle.rvd_fact.specs.Program.{Program, cell_at, is_present}
+use Rattle.rvd_fact.specs.Memory.{block_key, func_key, unit_key, block, bytes, has_instruction, is_instruction, refs_from, word}
 use Rattle.rvd_ask.specs.declared.asks.Ask.{Ask}
 use Rattle.rvd_ask.specs.declared.asks.Ask.TheVariants as ask
 use Rattle.rvd_ask.specs.declared.asks.Analyzer.TheVariants.{Flow}
 use Rattle.rvd_ask.specs.declared.answers.Answer.{Answer}
 use Rattle.rvd_ask.specs.Answers.{Hold, only_if, plain_cell, plain_value, told}
-use Rattle.rvd_ask.specs.Places.{addition, cell_instruction, error_key, mark_key, next_word, value_instruction}
-use Rattle.rvd_ask.specs.Promise.{AreAsks, KeepsPromise, Proposed}
+use Rattle.rvd_ask.specs.Places.{addition, cell_instruction, error_key, mark_key, next_word}
 use Rattle.rvd_ask.specs.Rules.{asks, rule}
 use Rattle.rvd_ask.specs.Wake.{item}
 use Rattle.rvd_ask.specs.Flow.{bad_instruction, block_asks, block_may_hold, cell_may_hold, code_addition, decides, decodes, flow_asks, flow_changes, flow_rule, flow_target, free_asks, is_executable, is_free, is_ready, may_hold, next_starts, openable, openable_asks, run, run_asks, start_asks, start_changes, starts, starts_asks, word_falls}
 use Rattle.rvd_an_flow.specs.Parts.{first_asks, first_decided, place_asks}
-use Rattle.rvd_ask.proofs.Told.{are_reads-told, asks-told, hold-told, same_asks, told-append, hold_left, hold_right, when_true, and_then, same_at, same_bytes, same_refs, same_test}
+use Rattle.rvd_ask.proofs.FreeBytes.{free_local}
+use Rattle.rvd_ask.proofs.Plain.{cell_instruction-plain, is_instruction-plain, is_none-plain, is_present-plain}
+use Rattle.rvd_ask.proofs.Proposing.{IsLocal}
+use Rattle.rvd_ask.proofs.Told.{told-append, hold_left, hold_right, when_true, and_then, same_at, same_bytes, same_refs, same_test}
 
 -- tests that see no block's bytes
 may_hold-plain : (b t : ℕ) (v : Value) → may_hold b t (plain_value v) ≡ may_hold b t v
@@ -44,75 +46,11 @@ cell_may_hold-plain : (b t : ℕ) (o : Option Cell) → cell_may_hold b t (plain
 cell_may_hold-plain b t None = refl
 cell_may_hold-plain b t (Some c) = may_hold-plain b t c.value
 
-is_none-plain : (o : Option Cell) → is_none (plain_cell o) ≡ is_none o
-is_none-plain None = refl
-is_none-plain (Some c) = refl
-
-is_present-plain : (o : Option Cell) → is_present (plain_cell o) ≡ is_present o
-is_present-plain None = refl
-is_present-plain (Some c) = ap not (gone c.value)
-  where
-    gone : (v : Value) → is_gone (plain_value v) ≡ is_gone v
-    gone (Block len perm None) = refl
-    gone (Block len perm (Some all)) = refl
-    gone Mark = refl
-    gone Func = refl
-    gone (Body ranges) = refl
-    gone (Symbol name) = refl
-    gone (Comment text) = refl
-    gone (Bookmark text) = refl
-    gone (Code w) = refl
-    gone (Plain f) = refl
-    gone (Ref to class) = refl
-    gone Gone = refl
-
-is_instruction-plain : (o : Option Cell) → is_instruction (plain_cell o) ≡ is_instruction o
-is_instruction-plain None = refl
-is_instruction-plain (Some c) = code c.value
-  where
-    code : (v : Value) → is_code (plain_value v) ≡ is_code v
-    code (Block len perm None) = refl
-    code (Block len perm (Some all)) = refl
-    code Mark = refl
-    code Func = refl
-    code (Body ranges) = refl
-    code (Symbol name) = refl
-    code (Comment text) = refl
-    code (Bookmark text) = refl
-    code (Code w) = refl
-    code (Plain f) = refl
-    code (Ref to class) = refl
-    code Gone = refl
-
-instruction-plain : (o : Option Cell) → cell_instruction (plain_cell o) ≡ cell_instruction o
-instruction-plain None = refl
-instruction-plain (Some c) = read c.value
-  where
-    read : (v : Value) → value_instruction (plain_value v) ≡ value_instruction v
-    read (Block len perm None) = refl
-    read (Block len perm (Some all)) = refl
-    read Mark = refl
-    read Func = refl
-    read (Body ranges) = refl
-    read (Symbol name) = refl
-    read (Comment text) = refl
-    read (Bookmark text) = refl
-    read (Code w) = refl
-    read (Plain f) = refl
-    read (Ref to class) = refl
-    read Gone = refl
-
 module _ (P S : Program) where
   -- ---- whether an instruction may be put at an address
   block_local : (t : ℕ) (o : Option ℕ) → Hold S (told P (block_asks o)) → block_may_hold P t o ≡ block_may_hold S t o
   block_local t None h = refl
   block_local t (Some b) h = same_test (cell_may_hold b t) (cell_may_hold-plain b t) (cell_at P (block_key b)) (cell_at S (block_key b)) h.0
-
-  free_local : (n t : ℕ) → Hold S (told P (free_asks P t n)) → is_free P t n ≡ is_free S t n
-  free_local zero t h = refl
-  free_local (suc n) t h =
-      and_then (is_none (cover P t)) (is_none (cover S t)) (is_free P (t + 1) n) (is_free S (t + 1) n) (ap is_none (same_at (cover P t) (cover S t) h.0))
-      (λ free. free_local n (t + 1) (when_true P S (is_none (cover P t)) (free_asks P (t + 1) n) free h.1))
 
   pub openable_local : (t : ℕ) → Hold S (told P (openable_asks P t)) → openable P t ≡ openable S t
   unfolding openable openable_asks
@@ -122,7 +60,7 @@ module _ (P S : Program) where
       let executable : is_executable P t ≡ is_executable S t = block_local t (block P t) (hold_left P S (block_asks (block P t)) _ asked.1) ∙ ap (block_may_hold S t) (same_at (block P t) (block S t) asked.0) in
       and_then (is_executable P t) (is_executable S t) _ _ executable (λ is_so.
       let further = when_true P S (is_executable P t) (free_asks P t 4 ++ only_if (is_free P t 4) (ask.Cell (unit_key t) ∷ [])) is_so (hold_right P S (block_asks (block P t)) _ asked.1) in
-      and_then (is_free P t 4) (is_free S t 4) _ _ (free_local 4 t (hold_left P S (free_asks P t 4) _ further)) (λ free.
+      and_then (is_free P t 4) (is_free S t 4) _ _ (free_local P S 4 t (hold_left P S (free_asks P t 4) _ further)) (λ free.
       same_test is_none is_none-plain (cell_at P (unit_key t)) (cell_at S (unit_key t)) (when_true P S (is_free P t 4) (ask.Cell (unit_key t) ∷ []) free (hold_right P S (free_asks P t 4) _ further)).0)))
 
   word_local : (t : ℕ) (qs : List Ask) → Hold S (told P (ask.Bytes t 4 ∷ qs)) → word P t ≡ word S t
@@ -220,7 +158,7 @@ module _ (P S : Program) where
       let mark = same_test is_present is_present-plain (cell_at P (mark_key x)) (cell_at S (mark_key x)) h.0 in
       let func = same_test is_present is_present-plain (cell_at P (func_key x)) (cell_at S (func_key x)) h.1.0 in
       let unit = cell_at P (unit_key x) in
-      let read = same_test cell_instruction instruction-plain unit (cell_at S (unit_key x)) h.1.1.0 in
+      let read = same_test cell_instruction cell_instruction-plain unit (cell_at S (unit_key x)) h.1.1.0 in
       let has = same_test is_instruction is_instruction-plain unit (cell_at S (unit_key x)) h.1.1.0 in
       let next : cond (has_instruction P x) (next_starts P x) [] ≡ cond (has_instruction S x) (next_starts S x) [] =
       choose (has_instruction P x) (has_instruction S x) (next_starts P x) (next_starts S x) has (λ is_so.
@@ -243,33 +181,11 @@ pub whole_changes : (P : Program) (x : ℕ) → first_decided P (starts P x) ≡
 unfolding rule flow_rule first_decided
 whole_changes P x = refl
 
-promise : (P : Program) (x : ℕ) → KeepsPromise (record { item = item Flow x; reads = told P (asks P (item Flow x)); changes = rule P (item Flow x) })
+pub local : (P : Program) (x : ℕ) → IsLocal P (item Flow x)
 unfolding rule asks
-promise P x = record { reads = are_reads-told P (flow_asks P x); kept = λ S valid h. sym (same_rule P S x h) }
+local P x S valid h = sym (same_rule P S x h)
 
-pub kept : (P : Program) (x : ℕ) (reads : List (Ask × Answer)) (changes : List Change) → reads ≡ told P (asks P (item Flow x)) → changes ≡ rule P (item Flow x) → KeepsPromise (record { item = item Flow x; reads = reads; changes = changes })
-kept P x reads changes same_reads same_changes =
-    subst (λ rs. KeepsPromise (record { item = item Flow x; reads = rs; changes = changes })) (sym same_reads)
-    (subst (λ cs. KeepsPromise (record { item = item Flow x; reads = told P (asks P (item Flow x)); changes = cs })) (sym same_changes) (promise P x))
-
--- ---- the reads of a proposal
-module _ (P : Program) (x : ℕ) where
-  pub whole_reads : (none placed all : List (Ask × Answer)) (ts : List ℕ) → none ≡ [] → placed ≡ none ++ told P (place_asks P x) → all ≡ placed ++ told P (first_asks P ts) → ts ≡ starts P x → all ≡ told P (asks P (item Flow x))
-  whole_reads none placed all ts empty first more same =
-      more ∙ (λ i. (first ∙ ap (λ rs. rs ++ told P (place_asks P x)) empty) i ++ told P (first_asks P (same i))) ∙ whole_asks P x
-
-  module _ (p : Proposed) (reads : List (Ask × Answer)) (changes : List Change) (is : p ≡ record { item = item Flow x; reads = reads; changes = changes }) (same : reads ≡ told P (asks P (item Flow x))) where
-    reads_are : p.reads ≡ told P (asks P (item Flow x))
-    reads_are = ap (λ (q : Proposed). q.reads) is ∙ same
-
-    item_is : p.item ≡ item Flow x
-    item_is = ap (λ (q : Proposed). q.item) is
-
-    pub hold_there : Hold P p.reads
-    hold_there = subst (Hold P) (sym reads_are) (hold-told P (asks P (item Flow x)))
-
-    pub in_order : map (λ r. r.0) p.reads ≡ asks P p.item
-    in_order = ap (λ rs. map (λ r. r.0) rs) reads_are ∙ asks-told P (asks P (item Flow x)) ∙ sym (ap (asks P) item_is)
-
-    pub just_these : AreAsks p.reads (asks P p.item)
-    just_these = same_asks p.reads (asks P p.item) in_order
+-- the reads of the parts are those of the whole
+pub whole_reads : (P : Program) (x : ℕ) (none placed all : List (Ask × Answer)) (ts : List ℕ) → none ≡ [] → placed ≡ none ++ told P (place_asks P x) → all ≡ placed ++ told P (first_asks P ts) → ts ≡ starts P x → all ≡ told P (asks P (item Flow x))
+whole_reads P x none placed all ts empty first more same =
+    more ∙ (λ i. (first ∙ ap (λ rs. rs ++ told P (place_asks P x)) empty) i ++ told P (first_asks P (same i))) ∙ whole_asks P x

@@ -1,6 +1,5 @@
--- The steps of flow's work, by their cases: four bytes are as many as are asked for (`four_bytes`), a byte is free or not
--- (`free-..`), a run goes on or ends (`behind-..`, `units-..`), and a start is passed over or decides (`first-..`).
-use Rattle.std.proofs.Common.{◌≡◌, ℕ, zero, suc, ◌+◌, ◌-◌, ◌<◌, Bool, true, false, cond, not, ◌&&◌, ◌||◌, List, [], ◌∷◌, ◌++◌, length, Option, Some, None, IfSome, refl, sym, ap, ◌∙◌, arith}
+-- The steps of flow's work, by their cases: four bytes are as many as are asked for (`four_bytes`), a run goes on or ends (`behind-..`, `units-..`), and a start is passed over or decides (`first-..`).
+use Rattle.std.proofs.Common.{◌≡◌, ℕ, zero, suc, ◌-◌, Bool, true, false, cond, not, ◌&&◌, ◌||◌, List, [], ◌∷◌, ◌++◌, length, Option, Some, None, IfSome, refl, sym, ap, ◌∙◌, arith}
 use Rattle.std.specs.Prelude.{is_none, is_some, filter_map, find, nat_lt, ◌==◌}
 use Rattle.std.specs.Option.{option_map}
 use Rattle.std.proofs.lemmas.Bool.{and_from, and_parts, eqb-true, false≢true}
@@ -9,16 +8,16 @@ use Rattle.rvd_decode.specs.Flow.{falls_through}
 use Rattle.rvd_fact.specs.declared.cells.Change.{Change}
 use Rattle.rvd_fact.specs.declared.values.Value.TheVariants.{Bookmark, Code}
 use Rattle.rvd_fact.specs.Program.{Program, cell_at}
-use Rattle.rvd_fact.specs.Memory.{bytes, cover, unit_key, word}
+use Rattle.rvd_fact.specs.Memory.{bytes, unit_key, word}
 use Rattle.rvd_ask.specs.declared.asks.Ask.{Ask}
 use Rattle.rvd_ask.specs.declared.asks.Ask.TheVariants as ask
-use Rattle.rvd_ask.specs.declared.answers.Answer.{Answer}
 use Rattle.rvd_ask.specs.declared.answers.Answer.TheVariants as answer
-use Rattle.rvd_ask.specs.Answers.{only_if, told}
+use Rattle.rvd_ask.specs.Answers.{only_if}
 use Rattle.rvd_ask.specs.Forms.{has_form}
 use Rattle.rvd_ask.specs.Places.{addition, error_key, next_word}
-use Rattle.rvd_ask.specs.Flow.{bad_instruction, code_addition, decides, decodes, flow_changes, free_asks, is_free, is_ready, openable, openable_asks, run, run_asks, start_changes, starts_asks, word_falls}
-use Rattle.rvd_ask.proofs.Told.{has_form-ans, told-append}
+use Rattle.rvd_ask.specs.Flow.{bad_instruction, code_addition, decides, decodes, flow_changes, is_ready, openable, openable_asks, run, run_asks, start_changes, starts_asks, word_falls}
+use Rattle.rvd_ask.proofs.Proposing.{append-assoc, append-nil}
+use Rattle.rvd_ask.proofs.Told.{has_form-ans}
 use Rattle.rvd_an_flow.specs.Parts.{behind_asks, code_word, coded, coded_asks, coded_decides, decided, decided_asks, first_asks, first_decided, is_deciding, ready_asks, ready_word, units}
 
 four : (a : ℕ) (o : Option (List ℕ)) → has_form (ask.Bytes a 4) (answer.Bytes o) ≡ true → IfSome o (λ list. length list ≡ 4)
@@ -28,40 +27,6 @@ four a (Some list) h = eqb-true (length list) 4 (and_parts (nat_lt 0 4) (length 
 -- a range of four bytes has four
 pub four_bytes : (S : Program) (a : ℕ) → IfSome (bytes S a 4) (λ list. length list ≡ 4)
 four_bytes S a = four a (bytes S a 4) (has_form-ans S (ask.Bytes a 4))
-
-pub append-nil : {A : Type 0} (qs : List A) → qs ++ [] ≡ qs
-append-nil [] = refl
-append-nil (q ∷ qs) = ap (λ ps. q ∷ ps) (append-nil qs)
-
-append-assoc : {A : Type 0} (ps qs rs : List A) → (ps ++ qs) ++ rs ≡ ps ++ (qs ++ rs)
-append-assoc [] qs rs = refl
-append-assoc (p ∷ ps) qs rs = ap (λ xs. p ∷ xs) (append-assoc ps qs rs)
-
--- ---- bytes that no unit has
-unfound : (o : Option ℕ) → is_some o ≡ false → is_none o ≡ true
-unfound None h = refl
-unfound (Some x) h = absurd (false≢true (sym h))
-
-taken : (o : Option ℕ) → is_some o ≡ true → is_none o ≡ false
-taken None h = absurd (false≢true h)
-taken (Some x) h = refl
-
--- the bytes at t + d and behind it, of n bytes from t on
-module _ (S : Program) (t d n : ℕ) (low : d < n) where
-  one_more : n - d ≡ suc (n - (d + 1))
-  one_more = omega (arith, low)
-
-  pub free-more : is_some (cover S (t + d)) ≡ false → is_free S (t + d) (n - d) ≡ is_free S (t + (d + 1)) (n - (d + 1))
-  free-more h = ap (is_free S (t + d)) one_more ∙ ap (λ b. b && is_free S (t + d + 1) (n - (d + 1))) (unfound (cover S (t + d)) h) ∙ (let e : t + d + 1 ≡ t + (d + 1) = omega arith in ap (λ x. is_free S x (n - (d + 1))) e)
-
-  pub asks-more : is_some (cover S (t + d)) ≡ false → free_asks S (t + d) (n - d) ≡ (ask.Cover (t + d) ∷ []) ++ free_asks S (t + (d + 1)) (n - (d + 1))
-  asks-more h = ap (free_asks S (t + d)) one_more ∙ ap (λ b. ask.Cover (t + d) ∷ only_if b (free_asks S (t + d + 1) (n - (d + 1)))) (unfound (cover S (t + d)) h) ∙ (let e : t + d + 1 ≡ t + (d + 1) = omega arith in ap (λ x. ask.Cover (t + d) ∷ free_asks S x (n - (d + 1))) e)
-
-  pub free-end : is_some (cover S (t + d)) ≡ true → is_free S (t + d) (n - d) ≡ false
-  free-end h = ap (is_free S (t + d)) one_more ∙ ap (λ b. b && is_free S (t + d + 1) (n - (d + 1))) (taken (cover S (t + d)) h)
-
-  pub asks-end : is_some (cover S (t + d)) ≡ true → free_asks S (t + d) (n - d) ≡ ask.Cover (t + d) ∷ []
-  asks-end h = ap (free_asks S (t + d)) one_more ∙ ap (λ b. ask.Cover (t + d) ∷ only_if b (free_asks S (t + d + 1) (n - (d + 1)))) (taken (cover S (t + d)) h)
 
 filter_cons : Option Change → List Change → List Change
 filter_cons None cs = cs
@@ -214,10 +179,7 @@ module _ (S : Program) where
       asked (openable S t) (decodes (word S t)) (is_none (cell_at S (error_key t))) (openable_asks S t) (ask.Cell (error_key t) ∷ []) (run_asks S t 255) (starts_asks S ts) (ask.Bytes t 4) (sym (same_decides t) ∙ h)
       ∙ sym (asks_by_tests t)
 
--- ---- reads and changes of a loop over the starts
-pub told-first : (S : Program) (reads : List (Ask × Answer)) (qs ps rs : List Ask) → rs ≡ qs ++ ps → (reads ++ told S qs) ++ told S ps ≡ reads ++ told S rs
-told-first S reads qs ps rs e = append-assoc reads (told S qs) (told S ps) ∙ ap (λ xs. reads ++ xs) (sym (told-append S qs ps) ∙ ap (told S) (sym e))
-
+-- ---- no starts
 pub none-decided : (S : Program) → first_decided S [] ≡ []
 unfolding first_decided
 none-decided S = refl

@@ -5,12 +5,11 @@ ghost use Rattle.rvd_ask.specs.Flow.{bad_instruction};
 ghost use Rattle.rvd_ask.specs.Places.{addition, error_key};
 ghost use Rattle.rvd_an_flow.specs.Parts.{code_word, coded, coded_asks, coded_decides, decided, decided_asks, first_asks, first_decided, is_deciding};
 
-use crate::asking::ask_cell;
 use crate::opening::is_openable;
 use crate::runs::add_run;
 use crate::words::ask_code;
-use rvd_ask::{Answer, Ask, View};
-use rvd_fact::{Addr, Cell, Change, Key, Kind, Source, Text, Value};
+use rvd_ask::{Reads, View, addition, ask_cell};
+use rvd_fact::{Addr, Change, Key, Kind, Text, Value};
 use std::alloc::{AllocError, Global};
 
 /// The most instructions of a run.
@@ -31,21 +30,14 @@ fn bookmark(alloc: Global, at: Addr) -> Result<Change, AllocError>
     ensures { IfOk result (λ change. change ≡ addition (error_key at) (Value.Bookmark bad_instruction)) }
 {
     let text = Text::of(alloc, Vec::from_array(alloc, *b"Bad Instruction")?)?;
-    Ok(Change {
-        key: error_key(at),
-        before: None,
-        after: Some(Cell {
-            value: Value::Bookmark(text),
-            source: Source::Analysis,
-        }),
-    })
+    Ok(addition(error_key(at), Value::Bookmark(text)))
 }
 
 // Adds the bookmark where none is there, and tells whether it was added.
 fn add_bookmark<V: View>(
     alloc: Global,
     view: &V,
-    reads: &mut Vec<(Ask, Answer)>,
+    reads: &mut Reads,
     changes: &mut Vec<Change>,
     at: Addr,
 ) -> Result<bool, AllocError>
@@ -65,7 +57,7 @@ fn add_bookmark<V: View>(
 fn add_coded<V: View>(
     alloc: Global,
     view: &V,
-    reads: &mut Vec<(Ask, Answer)>,
+    reads: &mut Reads,
     changes: &mut Vec<Change>,
     at: Addr,
     code: Option<u32>,
@@ -89,7 +81,7 @@ fn add_coded<V: View>(
 fn add_decided<V: View>(
     alloc: Global,
     view: &V,
-    reads: &mut Vec<(Ask, Answer)>,
+    reads: &mut Reads,
     changes: &mut Vec<Change>,
     at: Addr,
 ) -> Result<bool, AllocError>
@@ -109,7 +101,7 @@ fn add_decided<V: View>(
 pub fn add_first<V: View>(
     alloc: Global,
     view: &V,
-    reads: &mut Vec<(Ask, Answer)>,
+    reads: &mut Reads,
     changes: &mut Vec<Change>,
     starts: &[Addr],
 ) -> Result<(), AllocError>

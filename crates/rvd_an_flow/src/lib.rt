@@ -7,10 +7,9 @@
 //!   flow at an address leaves it without changes where it had none.
 //!
 //! What it proposes and what it asks is defined in rvd_ask (`Flow`); `specs/Parts.antt` names the parts of its work,
-//! and `specs/Laws.antt` states the first law; rvd_ask states the other (`Wake`).
+//! and rvd_ask states the laws (`Fitting`, `Wake`).
 #![tactic(auto)]
 
-mod asking;
 mod first;
 mod laws;
 mod opening;

@@ -1,10 +1,9 @@
-ghost use Rattle.std.specs.Prelude.{◌≡◌, ◌+◌, ◌^◌, ◌≤◌, ◌++◌, IfOk, OnOk};
+ghost use Rattle.std.specs.Prelude.{◌≡◌, ◌++◌, IfOk, OnOk};
 ghost use Rattle.std.specs.Option.{option_copied};
 ghost use Rattle.rvd_ask.specs.Answers.{told};
-ghost use Rattle.rvd_ask.specs.Flow.{block_asks, block_may_hold, cell_may_hold, free_asks, is_free, openable, openable_asks};
+ghost use Rattle.rvd_ask.specs.Flow.{block_asks, block_may_hold, cell_may_hold, openable, openable_asks};
 
-use crate::asking::{ask_block, ask_cell, ask_cover};
-use rvd_ask::{Answer, Ask, View};
+use rvd_ask::{Reads, View, ask_block, ask_cell, ask_free};
 use rvd_fact::{Addr, Cell, Key, Kind, Value};
 use std::alloc::AllocError;
 
@@ -27,7 +26,7 @@ fn may_hold(start: Addr, at: Addr, cell: Option<&Cell>) -> bool
 // Whether the block that begins at `start` is executable and initialised, and has the four bytes from `at` on.
 fn block_may_hold<V: View>(
     view: &V,
-    reads: &mut Vec<(Ask, Answer)>,
+    reads: &mut Reads,
     start: Option<Addr>,
     at: Addr,
 ) -> Result<bool, AllocError>
@@ -48,33 +47,9 @@ fn block_may_hold<V: View>(
     }
 }
 
-// Whether no present unit has one of the `count` bytes from `at` on.
-fn is_free<V: View>(
-    view: &V,
-    reads: &mut Vec<(Ask, Answer)>,
-    at: Addr,
-    count: u32,
-) -> Result<bool, AllocError>
-    requires { at + count ≤ 2 ^ 32 }
-    ensures answer { IfOk result (λ yes. yes ≡ is_free (V.program view.now) at count) }
-    ensures reads { OnOk result (reads.new.items ≡ reads.old.items ++ told (V.program view.now) (free_asks (V.program view.now) at count)) }
-{
-    for offset in 0..count {
-        let unit = ask_cover(view, reads, at + offset)?;
-        if unit.is_some() {
-            return Ok(false);
-        }
-    }
-    Ok(true)
-}
-
 /// Whether an instruction may be put at an address.
 #[tactic(auto, unfolding(rvd_ask::specs::Flow::openable, rvd_ask::specs::Flow::openable_asks))]
-pub fn is_openable<V: View>(
-    view: &V,
-    reads: &mut Vec<(Ask, Answer)>,
-    at: Addr,
-) -> Result<bool, AllocError>
+pub fn is_openable<V: View>(view: &V, reads: &mut Reads, at: Addr) -> Result<bool, AllocError>
     ensures answer { IfOk result (λ yes. yes ≡ openable (V.program view.now) at) }
     ensures reads { OnOk result (reads.new.items ≡ reads.old.items ++ told (V.program view.now) (openable_asks (V.program view.now) at)) }
 {
@@ -86,7 +61,7 @@ pub fn is_openable<V: View>(
     if !executable {
         return Ok(false);
     }
-    let free = is_free(view, reads, at, 4)?;
+    let free = ask_free(view, reads, at, 4)?;
     if !free {
         return Ok(false);
     }

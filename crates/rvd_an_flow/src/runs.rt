@@ -5,26 +5,20 @@ ghost use Rattle.rvd_ask.specs.Answers.{told};
 ghost use Rattle.rvd_an_flow.specs.Parts.{behind_asks, units};
 
 use crate::words::ready_word;
-use rvd_ask::{Answer, Ask, View};
+use rvd_ask::{Reads, View, addition};
 use rvd_decode::falls_through;
-use rvd_fact::{Addr, Cell, Change, Key, Kind, Source, Value};
+use rvd_fact::{Addr, Change, Key, Kind, Value};
 use std::alloc::{AllocError, Global};
 
 fn unit(at: Addr, word: u32) -> Change
     ensures { result ≡ addition (unit_key at) (Value.Code word) }
 {
-    Change {
-        key: Key {
-            at,
-            kind: Kind::Unit,
-            sub: 0,
-        },
-        before: None,
-        after: Some(Cell {
-            value: Value::Code(word),
-            source: Source::Analysis,
-        }),
-    }
+    let key = Key {
+        at,
+        kind: Kind::Unit,
+        sub: 0,
+    };
+    addition(key, Value::Code(word))
 }
 
 /// Adds the units of a run that begins with the instruction `code` at an address, and has room for `room` more behind it.
@@ -32,7 +26,7 @@ fn unit(at: Addr, word: u32) -> Change
 pub fn add_run<V: View>(
     alloc: Global,
     view: &V,
-    reads: &mut Vec<(Ask, Answer)>,
+    reads: &mut Reads,
     changes: &mut Vec<Change>,
     at: Addr,
     code: u32,

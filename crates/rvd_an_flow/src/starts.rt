@@ -1,14 +1,12 @@
 ghost use Rattle.std.specs.Prelude.{◌≡◌, ◌++◌, filter_map, IfOk, OnOk};
 ghost use Rattle.std.specs.Option.{option_copied};
 ghost use Rattle.rvd_decode.specs.Table.{instruction};
-ghost use Rattle.rvd_fact.specs.Program.{is_present};
 ghost use Rattle.rvd_fact.specs.Memory.{key_of};
 ghost use Rattle.rvd_ask.specs.Answers.{told};
 ghost use Rattle.rvd_ask.specs.Flow.{flow_target, starts};
 ghost use Rattle.rvd_an_flow.specs.Parts.{cell_code, following, given, place_asks};
 
-use crate::asking::{ask_cell, ask_refs};
-use rvd_ask::{Answer, Ask, RefList, View};
+use rvd_ask::{Reads, View, ask_cell, ask_refs, is_present};
 use rvd_decode::falls_through;
 use rvd_fact::{Addr, Cell, Key, Kind, RefClass, Value};
 use std::alloc::{AllocError, Global};
@@ -17,15 +15,6 @@ fn key(at: Addr, kind: Kind) -> Key
     ensures { result ≡ key_of kind at }
 {
     Key { at, kind, sub: 0 }
-}
-
-fn is_present(cell: Option<&Cell>) -> bool
-    ensures { result ≡ is_present (option_copied cell.entry) }
-{
-    match cell {
-        None => false,
-        Some(cell) => !matches!(&cell.value, Value::Gone),
-    }
 }
 
 fn code(cell: Option<&Cell>) -> Option<u32>
@@ -89,7 +78,7 @@ fn add_given(
 pub fn starts<V: View>(
     alloc: Global,
     view: &V,
-    reads: &mut Vec<(Ask, Answer)>,
+    reads: &mut Reads,
     at: Addr,
 ) -> Result<Vec<Addr>, AllocError>
     ensures starts { IfOk result (λ found. found.items ≡ starts (V.program view.now) at) }

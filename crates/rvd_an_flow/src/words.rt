@@ -5,9 +5,8 @@ ghost use Rattle.rvd_fact.specs.Memory.{word};
 ghost use Rattle.rvd_ask.specs.Answers.{told};
 ghost use Rattle.rvd_an_flow.specs.Parts.{code_word, ready_asks, ready_word};
 
-use crate::asking::ask_bytes;
 use crate::opening::is_openable;
-use rvd_ask::{Answer, Ask, View};
+use rvd_ask::{Ask, Reads, View, ask_bytes};
 use rvd_decode::decode;
 use rvd_fact::{Addr, Bytes};
 use std::alloc::{AllocError, Global};
@@ -43,13 +42,13 @@ fn code_word(word: Option<u32>) -> Option<u32>
 pub fn ask_code<V: View>(
     alloc: Global,
     view: &V,
-    reads: &mut Vec<(Ask, Answer)>,
+    reads: &mut Reads,
     at: Addr,
 ) -> Result<Option<u32>, AllocError>
     ensures answer { IfOk result (λ found. found ≡ code_word (word (V.program view.now) at)) }
     ensures reads { OnOk result (reads.new.items ≡ reads.old.items ++ told (V.program view.now) (Ask.Bytes at 4 ∷ [])) }
 {
-    let bytes = ask_bytes(alloc, view, reads, at)?;
+    let bytes = ask_bytes(alloc, view, reads, at, 4)?;
     Ok(code_word(word_in(&bytes)))
 }
 
@@ -58,7 +57,7 @@ pub fn ask_code<V: View>(
 pub fn ready_word<V: View>(
     alloc: Global,
     view: &V,
-    reads: &mut Vec<(Ask, Answer)>,
+    reads: &mut Reads,
     at: Addr,
 ) -> Result<Option<u32>, AllocError>
     ensures answer { IfOk result (λ found. found ≡ ready_word (V.program view.now) at) }

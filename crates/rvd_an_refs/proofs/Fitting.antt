@@ -24,7 +24,8 @@ use Rattle.rvd_fact.proofs.Validity.{cell_at_other, valid_placed}
 use Rattle.rvd_ask.specs.Places.{addition, cell_instruction, moved, ref_key, value_instruction}
 use Rattle.rvd_ask.specs.Refs.{computed, computed_address, computed_class, direct, instruction_changes, refs_rule, slot_changes, target_class, upper_before}
 use Rattle.rvd_ask.specs.Rules.{rule}
-use Rattle.rvd_an_refs.specs.Fitting.{FittingLaw}
+use Rattle.rvd_ask.specs.declared.asks.Analyzer.TheVariants.{Refs}
+use Rattle.rvd_ask.specs.Fitting.{FittingLaw}
 
 -- where there is a reference, it goes to an address
 abbrev GoesToAddress : Option (RefClass × ℕ) → Type 0
@@ -102,6 +103,6 @@ unit_fits : (S : Program) (y : ℕ) → IsValid S → (o : Option Cell) → cell
 unit_fits S y valid None here = tt
 unit_fits S y valid (Some c) here = slots_fit S y valid (address_there (unit_key y) c (valid.cells (unit_key y) c here)) (value_instruction c.value)
 
-pub refs_fitting : FittingLaw
+pub refs_fitting : FittingLaw Refs
 unfolding rule refs_rule
 refs_fitting S y valid = unit_fits S y valid (cell_at S (unit_key y)) refl

@@ -1,59 +1,32 @@
--- Programs that answer alike to what the rule of references asks on one of them have the same changes by it: `same_rule`. Use `keeps_promise`
--- for a proposal by these asks.
-use Rattle.std.proofs.Common.{◌≡◌, ℕ, true, cond, List, [], ◌∷◌, ◌++◌, Option, Some, None, refl, sym, ap, ◌∙◌, subst}
+-- Programs that answer alike to what the rule of references asks on one of them have the same changes by it: `local`.
+use Rattle.std.proofs.Common.{◌≡◌, ℕ, true, cond, [], ◌∷◌, ◌++◌, Option, Some, None, refl, sym, ap, ◌∙◌}
 use Rattle.std.specs.Prelude.{is_none, is_some}
 use Rattle.std.specs.Option.{option_and_then, option_map}
 use Rattle.rvd_decode.specs.Instruction.{Instruction}
-use Rattle.rvd_fact.specs.declared.cells.Cell.{Cell}
-use Rattle.rvd_fact.specs.declared.cells.Change.{Change}
 use Rattle.rvd_fact.specs.declared.values.RefClass.{RefClass}
-use Rattle.rvd_fact.specs.declared.values.Value.{Value}
-use Rattle.rvd_fact.specs.declared.values.Value.TheVariants.{Block, Mark, Func, Body, Symbol, Comment, Bookmark, Code, Plain, Ref, Gone}
+use Rattle.rvd_fact.specs.declared.values.Value.TheVariants.{Ref}
 use Rattle.rvd_fact.specs.Program.{Program, cell_at}
 use Rattle.rvd_fact.specs.Memory.{block, unit_key}
-use Rattle.rvd_ask.specs.declared.answers.Answer.{Answer}
 use Rattle.rvd_ask.specs.declared.asks.Analyzer.TheVariants.{Refs}
-use Rattle.rvd_ask.specs.declared.asks.Ask.{Ask}
 use Rattle.rvd_ask.specs.declared.asks.Ask.TheVariants as ask
-use Rattle.rvd_ask.specs.Answers.{Hold, only_if, plain_cell, plain_value, told}
-use Rattle.rvd_ask.specs.Places.{addition, cell_instruction, instruction_at, moved, ref_key, value_instruction, word_before}
+use Rattle.rvd_ask.specs.Answers.{Hold, only_if, told}
+use Rattle.rvd_ask.specs.Places.{addition, cell_instruction, instruction_at, moved, ref_key, word_before}
 use Rattle.rvd_ask.specs.Refs.{computed_address, computed_class, direct, instruction_asks, instruction_changes, refs_asks, refs_rule, slot_asks, slot_changes, upper_for}
-use Rattle.rvd_ask.specs.Promise.{are_reads, KeepsPromise}
-use Rattle.rvd_ask.specs.Rules.{rule}
+use Rattle.rvd_ask.specs.Rules.{asks, rule}
 use Rattle.rvd_ask.specs.Wake.{item}
 use Rattle.rvd_an_refs.specs.Slots.{computed_asks}
-use Rattle.rvd_ask.proofs.Told.{and_then, are_reads-told, hold_left, hold_right, same_at, same_test, when_true}
-
-plain_code : (v : Value) → value_instruction (plain_value v) ≡ value_instruction v
-plain_code (Block len perm (Some bytes)) = refl
-plain_code (Block len perm None) = refl
-plain_code Mark = refl
-plain_code Func = refl
-plain_code (Body ranges) = refl
-plain_code (Symbol name) = refl
-plain_code (Comment text) = refl
-plain_code (Bookmark text) = refl
-plain_code (Code w) = refl
-plain_code (Plain f) = refl
-plain_code (Ref to class) = refl
-plain_code Gone = refl
-
-plain_instruction : (o : Option Cell) → cell_instruction (plain_cell o) ≡ cell_instruction o
-plain_instruction None = refl
-plain_instruction (Some c) = plain_code c.value
-
-plain_none : (o : Option Cell) → is_none (plain_cell o) ≡ is_none o
-plain_none None = refl
-plain_none (Some c) = refl
+use Rattle.rvd_ask.proofs.Plain.{cell_instruction-plain, is_none-plain}
+use Rattle.rvd_ask.proofs.Proposing.{IsLocal}
+use Rattle.rvd_ask.proofs.Told.{and_then, hold_left, hold_right, same_at, same_test, when_true}
 
 same_instruction : (P S : Program) (a : ℕ) → Hold S (told P (ask.Cell (unit_key a) ∷ [])) → instruction_at P a ≡ instruction_at S a
-same_instruction P S a h = same_test cell_instruction plain_instruction (cell_at P (unit_key a)) (cell_at S (unit_key a)) h.0
+same_instruction P S a h = same_test cell_instruction cell_instruction-plain (cell_at P (unit_key a)) (cell_at S (unit_key a)) h.0
 
 same_slot : (P S : Program) (y slot : ℕ) (o : Option (RefClass × ℕ)) → Hold S (told P (slot_asks P y slot o)) → slot_changes P y slot o ≡ slot_changes S y slot o
 same_slot P S y slot None h = refl
 same_slot P S y slot (Some r) h =
     let there = ap is_some (same_at (block P r.1) (block S r.1) h.0) in
-    let free = λ (e : is_some (block P r.1) ≡ true). same_test is_none plain_none (cell_at P (ref_key y slot)) (cell_at S (ref_key y slot)) (when_true P S (is_some (block P r.1)) (ask.Cell (ref_key y slot) ∷ []) e h.1).0 in
+    let free = λ (e : is_some (block P r.1) ≡ true). same_test is_none is_none-plain (cell_at P (ref_key y slot)) (cell_at S (ref_key y slot)) (when_true P S (is_some (block P r.1)) (ask.Cell (ref_key y slot) ∷ []) e h.1).0 in
     ap (λ b. cond b (addition (ref_key y slot) (Ref r.1 r.0) ∷ []) [])
     (and_then (is_some (block P r.1)) (is_some (block S r.1)) (is_none (cell_at P (ref_key y slot))) (is_none (cell_at S (ref_key y slot))) there free)
 
@@ -85,15 +58,7 @@ unfolding refs_rule refs_asks
 same_rule P S y h =
     sym (same_slots P S y (instruction_at P y) h.1 ∙ ap (instruction_changes S y) (same_instruction P S y (h.0, tt)))
 
--- reads that a program tells to these asks keep the promise of its changes
-pub keeps_promise : (P : Program) (y : ℕ) (reads : List (Ask × Answer)) (changes : List Change) → reads ≡ told P (refs_asks P y) → changes ≡ refs_rule P y
-    → KeepsPromise (record { item = item Refs y; reads = reads; changes = changes })
-unfolding rule
-keeps_promise P y reads changes heard found = record {
-  reads = ap are_reads heard ∙ are_reads-told P (refs_asks P y);
-  kept = λ S valid h. same_rule P S y (subst (Hold S) heard h) ∙ sym found;
-}
-
--- what was added to an empty list
-pub from_empty : {A : Type 0} (old now added : List A) → old ≡ [] → now ≡ old ++ added → now ≡ added
-from_empty old now added empty h = h ∙ ap (λ xs. xs ++ added) empty
+-- the rule depends on nothing but what it asks
+pub local : (P : Program) (y : ℕ) → IsLocal P (item Refs y)
+unfolding rule asks
+local P y S valid h = same_rule P S y h

@@ -1,5 +1,5 @@
+ghost use Rattle.rvd_ask.specs.Fitting.{FittingLaw};
 ghost use Rattle.rvd_ask.specs.Wake.{WakeLaw};
-ghost use Rattle.rvd_an_refs.specs.Fitting.{FittingLaw};
 
 use rvd_ask::{Analyzer, candidate_law};
 
@@ -14,5 +14,5 @@ pub fn wake_law()
 /// A law of the definitions: the changes of the rule of references may be applied to the valid program that they are
 /// found on, one after another.
 pub fn refs_fit()
-    ensures { FittingLaw }
+    ensures { FittingLaw Analyzer.Refs }
 {}

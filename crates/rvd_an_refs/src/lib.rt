@@ -4,8 +4,8 @@
 //!   immediate tells (JAL and branches), and one to the address that it computes with the upper value that LUI or
 //!   AUIPC just before it leaves in its register (ADDI, loads, stores and JALR).
 //!
-//! The rule and what it asks are defined in rvd_ask (`Refs`), and so is which changes wake it (`Wake`). `specs/Fitting.antt`
-//! says that the rule's changes may be applied, and `specs/Slots.antt` names the parts of what it asks.
+//! The rule and what it asks are defined in rvd_ask (`Refs`), and so is which changes wake it (`Wake`) and what it means
+//! that its changes fit (`Fitting`). `specs/Slots.antt` names the parts of what it asks.
 //!
 //! Two laws say what the rule is good for: [`wake_law`] and [`refs_fit`].
 #![tactic(auto)]

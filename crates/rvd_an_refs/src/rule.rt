@@ -1,16 +1,16 @@
 ghost use Rattle.std.specs.Prelude.{◌≡◌, ◌++◌, Some, map, IfOk, OnOk};
 ghost use Rattle.rvd_ask.specs.Answers.{Hold, told};
-ghost use Rattle.rvd_ask.specs.Places.{addition, word_before};
+ghost use Rattle.rvd_ask.specs.Places.{word_before};
 ghost use Rattle.rvd_ask.specs.Promise.{AreAsks};
 ghost use Rattle.rvd_ask.specs.Refs.{computed, upper_before, slot_changes, slot_asks, instruction_changes, instruction_asks, refs_rule, refs_asks};
 ghost use Rattle.rvd_ask.specs.Rules.{asks};
 ghost use Rattle.rvd_an_refs.specs.Slots.{computed_asks, is_lacking, lacking_asks, unit_asks};
 
-use crate::asking::{Reads, ask_block, ask_cell, ask_instruction};
+use crate::asking::ask_instruction;
 use crate::targets::{computed, computed_class, direct, upper_for};
-use rvd_ask::{Analyzer, Item, Proposal, Rule, View};
+use rvd_ask::{Analyzer, Item, Proposal, Reads, Rule, View, addition, ask_block, ask_cell};
 use rvd_decode::Insn;
-use rvd_fact::{Addr, Cell, Change, Key, Kind, RefClass, Source, Value};
+use rvd_fact::{Addr, Change, Key, Kind, RefClass, Value};
 use std::alloc::{AllocError, Global};
 
 // How many bytes an instruction takes.
@@ -21,19 +21,6 @@ const TARGET_SLOT: u8 = 0;
 
 // The slot of the address that is computed.
 const COMPUTED_SLOT: u8 = 1;
-
-fn addition(key: Key, value: Value) -> Change
-    ensures { result ≡ addition key value }
-{
-    Change {
-        key,
-        before: None,
-        after: Some(Cell {
-            value,
-            source: Source::Analysis,
-        }),
-    }
-}
 
 // Whether a slot lacks a reference to an address.
 fn is_lacking<V: View>(view: &V, reads: &mut Reads, slot: Key, to: Addr) -> Result<bool, AllocError>

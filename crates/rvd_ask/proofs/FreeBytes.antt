@@ -1,11 +1,10 @@
 -- Bytes that no unit has, asked for one by one. Use `free-more`, `asks-more`, `free-end` and `asks-end` for the steps of a
 -- loop over them, and `free_local` where another program answers the same.
-use Rattle.std.proofs.Common.{◌≡◌, ℕ, zero, suc, ◌+◌, ◌-◌, ◌<◌, Bool, true, false, ◌&&◌, List, [], ◌∷◌, ◌++◌, Option, Some, None, refl, sym, ap, ◌∙◌, arith}
+use Rattle.std.proofs.Common.{◌≡◌, ℕ, zero, suc, ◌+◌, ◌-◌, ◌<◌, true, false, ◌&&◌, [], ◌∷◌, ◌++◌, Option, Some, None, refl, sym, ap, ◌∙◌, arith}
 use Rattle.std.specs.Prelude.{is_none, is_some}
 use Rattle.std.proofs.lemmas.Bool.{false≢true}
 use Rattle.rvd_fact.specs.Program.{Program}
 use Rattle.rvd_fact.specs.Memory.{cover}
-use Rattle.rvd_ask.specs.declared.asks.Ask.{Ask}
 use Rattle.rvd_ask.specs.declared.asks.Ask.TheVariants as ask
 use Rattle.rvd_ask.specs.Answers.{only_if, told, Hold}
 use Rattle.rvd_ask.specs.Flow.{free_asks, is_free}

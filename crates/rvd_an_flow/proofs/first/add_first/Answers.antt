@@ -3,7 +3,8 @@ use Rattle.std.specs.Prelude.{get_or}
 use Rattle.std.proofs.lemmas.List.{drop_more, drop_all}
 use Rattle.rvd_ask.specs.Answers.{told}
 use Rattle.rvd_an_flow.specs.Parts.{decided, decided_asks, first_asks, first_decided, is_deciding}
-use Rattle.rvd_an_flow.proofs.Steps.{append-nil, told-first, first-passed, first-deciding, asks-passed, asks-deciding, decided-passed, none-decided, none-asked}
+use Rattle.rvd_ask.proofs.Proposing.{append-nil, told-first}
+use Rattle.rvd_an_flow.proofs.Steps.{first-passed, first-deciding, asks-passed, asks-deciding, decided-passed, none-decided, none-asked}
 use Rattle.rvd_an_flow.proofs.first.add_first.Goals as goal
 
 pub returns-then-branch-clause-changes : goal.returns-then-branch-clause-changes

@@ -8,7 +8,8 @@ use Rattle.rvd_fact.specs.declared.values.Value.TheVariants.{Code}
 use Rattle.rvd_fact.specs.Memory.{unit_key}
 use Rattle.rvd_ask.specs.Places.{addition, next_word}
 use Rattle.rvd_an_flow.specs.Parts.{behind_asks, ready_asks, units}
-use Rattle.rvd_an_flow.proofs.Steps.{behind-end, behind-more, units-more, told-first}
+use Rattle.rvd_ask.proofs.Proposing.{told-first}
+use Rattle.rvd_an_flow.proofs.Steps.{behind-end, behind-more, units-more}
 use Rattle.rvd_an_flow.proofs.runs.+add_run.Goals as goal
 
 pub returns-in-None-clause-reads : goal.returns-in-None-clause-reads
