@@ -3,6 +3,7 @@ pub mod Applying
 pub mod Back
 pub mod Lengths
 pub mod Ranges
+pub mod References
 pub mod Spaces
 pub mod Standing
 pub mod Deciding

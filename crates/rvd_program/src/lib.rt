@@ -4,9 +4,9 @@
 //!   and units by `block`, `bytes` and `cover`, and its references by `has_ref_to` and `refs_from`. `fits` tells whether
 //!   changes may be applied, `apply` applies them, and `revert` undoes them. As a `View` it can be asked.
 //!
-//! A program is valid at every moment. The cells stand in a table in the order of their keys, so that a cell is found
-//! in a time that grows as the logarithm of their number, and a program is built from facts in the order of their keys
-//! in a time that grows as their number.
+//! A program is valid at every moment. The cells stand in a table in the order of their keys, so that a cell, or the
+//! first reference from an address, is found in a time that grows as the logarithm of their number, and a program is
+//! built from facts in the order of their keys in a time that grows as their number.
 //!
 //! What a program is, when it is valid and what changes do to it is defined in rvd_fact (`Program`, `Memory` and
 //! `Valid`); `specs/Lookup.antt` adds what a look-up by order finds.

@@ -1,9 +1,10 @@
 ghost use Rattle.std.specs.Prelude.{◌≡◌, ◌==◌, None, IfOk, if◌then◌else◌};
+ghost use Rattle.rvd_fact.specs.Program.{IsInOrder};
 ghost use Rattle.rvd_fact.specs.Memory.{has_ref_to, refs_from, refers, ref_of};
 
 use crate::kept::Kept;
 use crate::valid_map::Program;
-use rvd_fact::{Addr, Key, RefClass, Value};
+use rvd_fact::{Addr, Key, Kind, RefClass, Value};
 use std::alloc::{AllocError, Global};
 
 impl Program {
@@ -15,6 +16,7 @@ impl Program {
     }
 
     /// The present references from an address as slot, class and target, in slot order. Only want of memory refuses it.
+    /// The first is found by a look-up, and the others stand next to it.
     pub fn refs_from(
         &self,
         alloc: Global,
@@ -22,7 +24,12 @@ impl Program {
     ) -> Result<Vec<(u8, RefClass, Addr)>, AllocError>
         ensures { IfOk result (λ list. list.items ≡ refs_from self.now at) }
     {
-        list_refs(alloc, self.entries(), at)
+        let first = Key {
+            at,
+            kind: Kind::Ref,
+            sub: 0,
+        };
+        list_refs(alloc, self.cells.entries_from(&first), at)
     }
 }
 
@@ -44,15 +51,20 @@ fn refers(value: &Value, at: Addr, class: RefClass) -> bool
     }
 }
 
+// The references from an address among entries in order: none comes after an entry of a later address.
 fn list_refs(
     alloc: Global,
     entries: &[(Key, Kept)],
     at: Addr,
 ) -> Result<Vec<(u8, RefClass, Addr)>, AllocError>
+    requires { IsInOrder entries.now }
     ensures { IfOk result (λ list. list.items ≡ refs_from entries.now at) }
 {
     let mut list = Vec::new(alloc);
     for entry in entries {
+        if entry.0.at > at {
+            return Ok(list);
+        }
         if let Some(found) = ref_at(&entry.0, &entry.1.cell().value, at) {
             list.push(found)?;
         }

@@ -1,6 +1,6 @@
 -- What is at a place of a map's entries: from where a key stands, or would go, to what a look-up, a change and a removal
 -- come to. `is_key_at` and `is_key_gap` are for the end of a search, and the lemmas above them for one call each.
-use Rattle.std.proofs.Common.{◌≡◌, ℕ, zero, suc, ◌-◌, ◌<◌, ◌≤◌, not, cond, List, [], ◌∷◌, length, set, get_or, Option, Some, None, slice_get, refl, ap, ◌∙◌, subst, arith}
+use Rattle.std.proofs.Common.{◌≡◌, ℕ, zero, suc, ◌-◌, ◌<◌, ◌≤◌, not, cond, List, [], ◌∷◌, length, set, get_or, drop, Option, Some, None, slice_get, refl, ap, ◌∙◌, subst, arith}
 use Rattle.std.specs.Prelude.{T}
 use Rattle.std.specs.List.{insert, remove}
 use Rattle.std.specs.Option.{option_or}
@@ -10,7 +10,7 @@ use Rattle.std.specs.Ordering.{is_eq, is_le, is_ge, eq_by_cmp}
 use Rattle.std.specs.Cmp.{IsTotalOrder}
 use Rattle.std.specs.FinMap.{find, put, is_sorted}
 use Rattle.std.specs.FinMap.Entries.{below_all, by_order, is_sorted-put, is_sorted-where_key}
-use Rattle.rvd_table.specs.Table.{next_entry, last_entry, without}
+use Rattle.rvd_table.specs.Table.{next_entry, last_entry, entries_from, without}
 use Rattle.rvd_table.specs.Places.{IsKeyAt, IsKeyGap}
 use Rattle.rvd_table.proofs.Searching.{first, second, less, IsAt, IsGapAt, below_more, below_tied}
 
@@ -27,6 +27,9 @@ module _ {K V : Type 0} (R : K → K → Ordering) (k : K) where
 
   next_step : (e : K × V) (es : List (K × V)) (r : Ordering) → R k e.0 ≡ r → next_entry R k (e ∷ es) ≡ cond (is_le r) (Some e) (next_entry R k es)
   next_step e es r h = ap (λ (r : Ordering). cond (is_le r) (Some e) (next_entry R k es)) h
+
+  from_step : (e : K × V) (es : List (K × V)) (r : Ordering) → R k e.0 ≡ r → entries_from R k (e ∷ es) ≡ cond (is_le r) (e ∷ entries_from R k es) (entries_from R k es)
+  from_step e es r h = ap (λ (r : Ordering). cond (is_le r) (e ∷ entries_from R k es) (entries_from R k es)) h
 
   last_step : (e : K × V) (es : List (K × V)) (r : Ordering) (rest : Option (K × V)) → R k e.0 ≡ r → last_entry R k es ≡ rest → last_entry R k (e ∷ es) ≡ option_or rest (cond (is_ge r) (Some e) None)
   last_step e es r rest h is = λ i. option_or (is i) (cond (is_ge (h i)) (Some e) None)
@@ -78,6 +81,10 @@ module _ {K V : Type 0} (R : K → K → Ordering) (o : IsTotalOrder R) (k : K) 
   without_below [] b = refl
   without_below (e ∷ es) b = without_step R k e es Less (less _ (first _ _ b)) ∙ ap (λ ys. e ∷ ys) (without_below es (second _ _ b))
 
+  from_below : (es : List (K × V)) → T (below_all R k es) → entries_from R k es ≡ es
+  from_below [] b = refl
+  from_below (e ∷ es) b = from_step R k e es Less (less _ (first _ _ b)) ∙ ap (λ ys. e ∷ ys) (from_below es (second _ _ b))
+
   last_below : (es : List (K × V)) → T (below_all R k es) → last_entry R k es ≡ None
   last_below [] b = refl
   last_below (e ∷ es) b = last_step R k e es Less None (less _ (first _ _ b)) (last_below es (second _ _ b))
@@ -96,6 +103,17 @@ module _ {K V : Type 0} (R : K → K → Ordering) (o : IsTotalOrder R) (k : K) 
   without-at_gap [] i s h = refl
   without-at_gap (x ∷ es) zero s h = without_step R k x es Less h ∙ ap (λ ys. x ∷ ys) (without_below es (below_more R o k x.0 es h (first _ _ s)))
   without-at_gap (x ∷ es) (suc i) s h = without_step R k x es Greater h.0 ∙ ap (λ ys. x ∷ ys) (without-at_gap es i (second _ _ s) h.1)
+
+  pub entries_from-at : (es : List (K × V)) (i : ℕ) → T (is_sorted R es) → IsAt R k es i → entries_from R k es ≡ drop i es
+  entries_from-at [] i s h = absurd h
+  entries_from-at (x ∷ es) zero s h = from_step R k x es Equal h ∙ ap (λ ys. x ∷ ys) (from_below es (below_tied R o k x.0 es h (first _ _ s)))
+  entries_from-at (x ∷ es) (suc i) s h = from_step R k x es Greater h.0 ∙ entries_from-at es i (second _ _ s) h.1
+
+  pub entries_from-at_gap : (es : List (K × V)) (i : ℕ) → T (is_sorted R es) → IsGapAt R k es i → entries_from R k es ≡ drop i es
+  entries_from-at_gap [] zero s h = refl
+  entries_from-at_gap [] (suc i) s h = absurd h
+  entries_from-at_gap (x ∷ es) zero s h = from_step R k x es Less h ∙ ap (λ ys. x ∷ ys) (from_below es (below_more R o k x.0 es h (first _ _ s)))
+  entries_from-at_gap (x ∷ es) (suc i) s h = from_step R k x es Greater h.0 ∙ entries_from-at_gap es i (second _ _ s) h.1
 
   -- an element is there below the end
   some_at : (es : List (K × V)) (i : ℕ) → i < length es → (x : Option (K × V)) → option_or (slice_get es i) x ≡ slice_get es i
@@ -131,6 +149,7 @@ module _ {K V : Type 0} (R : K → K → Ordering) (o : IsTotalOrder R) (k : K) 
         removed = without-at es i s h;
         order_removed = subst (λ (ys : List (K × V)). T (is_sorted R ys)) (without-at es i s h) (is_sorted-where_key R (λ x. not (eq_by_cmp R k x)) es s);
         next = next_entry-at R k es i h;
+        rest = entries_from-at es i s h;
         last = last_entry-at es i s h;
       }
 
@@ -143,6 +162,7 @@ module _ {K V : Type 0} (R : K → K → Ordering) (o : IsTotalOrder R) (k : K) 
         order_added = λ v. subst (λ (ys : List (K × V)). T (is_sorted R ys)) (put-at_gap R k es i v h) (is_sorted-put R o k v es s);
         kept = without-at_gap es i s h;
         next = next_entry-at_gap R k es i h;
+        rest = entries_from-at_gap es i s h;
         first = λ z. last_entry-at_start es s (subst (IsGapAt R k es) z h);
         last = last_before es i s h;
       }

@@ -1,7 +1,7 @@
 //! A finite map that keeps its keys in order.
 //!
 //! - `Table` is the map. It is made by `new` and `copy`, read by `get`, `next_at_or_after`, `last_at_or_before`,
-//!   `entries`, `len` and `is_empty`, and changed by `set` and `unset`.
+//!   `entries`, `entries_from`, `len` and `is_empty`, and changed by `set` and `unset`.
 //! - `Copied` is what a value must be able to do, so that a map of it can be copied.
 //! - `map_law` states what reading gives after each change, and that the neighbours of a key are the nearest keys.
 //!

@@ -1,6 +1,6 @@
-ghost use Rattle.std.specs.Prelude.{◌≡◌, ◌<◌, ◌≤◌, ◌-◌, length, slice_get, None, IfOk, IfErr, T};
+ghost use Rattle.std.specs.Prelude.{◌≡◌, ◌<◌, ◌≤◌, ◌-◌, length, drop, slice_get, None, IfOk, IfErr, T};
 ghost use Rattle.std.specs.FinMap.{is_sorted};
-ghost use Rattle.rvd_table.specs.Table.{next_entry, last_entry};
+ghost use Rattle.rvd_table.specs.Table.{next_entry, last_entry, entries_from};
 ghost use Rattle.rvd_table.specs.Places.{IsKeyAt, IsKeyGap};
 
 use std::cmp::Ordering;
@@ -44,7 +44,9 @@ pub fn place_of<K: Ord + Copy, V>(entries: &[(K, V)], key: &K) -> Result<usize, 
 /// The place of the least key that isn't below, or the number of keys where there is none.
 pub fn next_place<K: Ord + Copy, V>(entries: &[(K, V)], key: &K) -> usize
     requires { T (is_sorted K.cmp entries.now) }
-    ensures { next_entry K.cmp key.now entries.now ≡ slice_get entries.now result }
+    ensures within { result ≤ length entries.now }
+    ensures next { next_entry K.cmp key.now entries.now ≡ slice_get entries.now result }
+    ensures rest { entries_from K.cmp key.now entries.now ≡ drop result entries.now }
 {
     match place_of(entries, key) {
         Ok(at) => at,

@@ -1,7 +1,7 @@
 ghost use Rattle.std.specs.Prelude.{◌≡◌, ◌↔◌, [], length, T, IsTrue, IfOk, OnOk, OnErr};
 ghost use Rattle.std.specs.Option.{option_map, option_copied};
 ghost use Rattle.std.specs.FinMap.{find, put, is_sorted};
-ghost use Rattle.rvd_table.specs.Table.{next_entry, last_entry, without};
+ghost use Rattle.rvd_table.specs.Table.{next_entry, last_entry, entries_from, without};
 
 use crate::place::{count_up_to, next_place, place_of};
 use crate::value::Copied;
@@ -124,6 +124,15 @@ impl<K: Ord + Copy, V: Copied> Table<K, V> {
         ensures ordered { T (is_sorted K.cmp self.now) }
     {
         &self.entries
+    }
+
+    /// The entries of the keys that aren't below `key`, in their order. The first is found by a look-up. It takes no memory.
+    pub fn entries_from(&self, key: &K) -> &[(K, V)]
+        ensures value { result.now ≡ entries_from K.cmp key.now self.now }
+        ensures ordered { T (is_sorted K.cmp result.now) }
+    {
+        let at = next_place(&self.entries, key);
+        &self.entries[at..]
     }
 
     /// The number of keys. It takes no memory.

@@ -25,14 +25,14 @@ fn neighbours_are_the_nearest_keys(rt: HostRuntime) -> Result<(), Fail> {
         table.entries(),
         [(10, 11), (20, 21), (25, 26), (30, 31)].as_slice()
     );
-    for (key, next, last) in [
-        (9, Some(10), None),
-        (10, Some(10), Some(10)),
-        (11, Some(20), Some(10)),
-        (20, Some(20), Some(20)),
-        (26, Some(30), Some(25)),
-        (30, Some(30), Some(30)),
-        (31, None, Some(30)),
+    for (key, next, last, from) in [
+        (9, Some(10), None, 4),
+        (10, Some(10), Some(10), 4),
+        (11, Some(20), Some(10), 3),
+        (20, Some(20), Some(20), 3),
+        (26, Some(30), Some(25), 1),
+        (30, Some(30), Some(30), 1),
+        (31, None, Some(30), 0),
     ] {
         assert_eq!(rt;
             table.next_at_or_after(&key).map(|e| *e.0),
@@ -44,6 +44,7 @@ fn neighbours_are_the_nearest_keys(rt: HostRuntime) -> Result<(), Fail> {
             last,
             "at {key}"
         );
+        assert_eq!(rt; table.entries_from(&key).len(), from, "at {key}");
     }
     Ok(())
 }
