@@ -3,10 +3,10 @@ use Rattle.std.proofs.Common.{◌≡◌, ℕ, ◌+◌, Bool, true, cond, List, O
 use Rattle.rvd_event.specs.declared.events.Event.TheVariants as event
 use Rattle.rvd_event.specs.declared.replies.Reply.TheVariants as reply
 use Rattle.rvd_event.specs.declared.replies.Refusal.TheVariants as refusal
-use Rattle.rvd_machine.specs.State.{State, Open, lives_of, is_session, without}
-use Rattle.rvd_machine.specs.Moves.{closed_in}
-use Rattle.rvd_machine.specs.Replies.{answered}
-use Rattle.rvd_machine.specs.Steps.{counted}
+use Rattle.rvd_early.specs.State.{State, Open, lives_of, is_session, without}
+use Rattle.rvd_early.specs.Moves.{closed_in}
+use Rattle.rvd_early.specs.Replies.{answered}
+use Rattle.rvd_early.specs.Steps.{counted}
 use Rattle.rvd_top.specs.Calls.{Did}
 
 pub did_close : (s : State) (a n : ℕ) (c : Option Open) (left : List ℕ) → is_session a s.open_sessions ≡ true

@@ -15,11 +15,11 @@ use Rattle.rvd_script.specs.declared.script_lines.EventLine.{EventLine}
 use Rattle.rvd_script.specs.declared.script_lines.What1.{What1}
 use Rattle.rvd_script.specs.declared.script_lines.What1.TheVariants.{Call, Ask, Settle}
 use Rattle.rvd_script.specs.Legal.{Events, IsFile, is_line, is_of_actor, is_session_event, is_worker_event}
-use Rattle.rvd_machine.specs.State.{State}
-use Rattle.rvd_machine.specs.Replies.{is_of_analysis}
-use Rattle.rvd_machine.specs.Steps.{Head, start_of, state, after, need, may_call, has_own_room, kept_rooms, IsStep, IsBounded}
-use Rattle.rvd_machine.proofs.Journals.{legal-push, state-push}
-use Rattle.rvd_machine.proofs.Bounds.{legal_is_bounded}
+use Rattle.rvd_early.specs.State.{State}
+use Rattle.rvd_early.specs.Replies.{is_of_analysis}
+use Rattle.rvd_early.specs.Steps.{Head, start_of, state, after, need, may_call, has_own_room, kept_rooms, IsStep, IsBounded}
+use Rattle.rvd_early.proofs.Journals.{legal-push, state-push}
+use Rattle.rvd_early.proofs.Bounds.{legal_is_bounded}
 use Rattle.rvd_top.specs.Plays.{Plays, PlaysIn, PlaysLine, calls, calls_in, calls_of, call_of, is_played, is_whole, first_unplayed}
 
 pub plays_none : (h : Head) → IsValid h.program → (1 ≤ h.sessions) × (h.sessions ≤ 16) → h.workers ≤ 8 → Plays h [] (start_of h)

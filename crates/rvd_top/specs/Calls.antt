@@ -4,9 +4,9 @@ use Rattle.std.specs.Prelude.{◌≡◌, ℕ, Some}
 use Rattle.rvd_event.specs.declared.events.Event.{Event}
 use Rattle.rvd_event.specs.declared.replies.Reply.{Reply}
 use Rattle.rvd_event.specs.declared.replies.Reply.TheVariants as reply
-use Rattle.rvd_machine.specs.State.{State}
-use Rattle.rvd_machine.specs.Replies.{reply_to}
-use Rattle.rvd_machine.specs.Steps.{counted, moved}
+use Rattle.rvd_early.specs.State.{State}
+use Rattle.rvd_early.specs.Replies.{reply_to}
+use Rattle.rvd_early.specs.Steps.{counted, moved}
 use Rattle.rvd_top.specs.declared.early.CallError.{CallError}
 use Rattle.rvd_top.specs.declared.early.CallError.TheVariants.{Refused, OutOfMemory}
 

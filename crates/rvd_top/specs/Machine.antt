@@ -6,7 +6,7 @@ use Rattle.rvd_fact.specs.Program.{Program, applied_all}
 use Rattle.rvd_fact.specs.Valid.{Fits}
 use Rattle.rvd_trans.specs.Transaction.{Transaction}
 use Rattle.rvd_undo.specs.Records.{Stands, history}
-use Rattle.rvd_machine.specs.State.{State, Open}
+use Rattle.rvd_early.specs.State.{State, Open}
 use Rattle.rvd_top.specs.declared.working.Working.{Working}
 use Rattle.rvd_top.specs.declared.early.Early.TheInside.{Inside}
 

@@ -12,9 +12,9 @@ use Rattle.rvd_script.specs.declared.script_lines.EventLine.{EventLine}
 use Rattle.rvd_script.specs.declared.script_lines.What1.{What1}
 use Rattle.rvd_script.specs.declared.script_lines.What1.TheVariants.{Call, Ask, Settle}
 use Rattle.rvd_script.specs.Legal.{Events}
-use Rattle.rvd_machine.specs.State.{State, base}
-use Rattle.rvd_machine.specs.Replies.{is_of_analysis}
-use Rattle.rvd_machine.specs.Steps.{Head, IsLegal, state}
+use Rattle.rvd_early.specs.State.{State, base}
+use Rattle.rvd_early.specs.Replies.{is_of_analysis}
+use Rattle.rvd_early.specs.Steps.{Head, IsLegal, state}
 use Rattle.rvd_top.specs.Calls.{Did}
 use Rattle.rvd_report.specs.Listing.{listing}
 use Rattle.rvd_report.specs.History.{history}

@@ -1,8 +1,8 @@
 ghost use Rattle.std.specs.Prelude.{◌≡◌, ◌+◌, ◌-◌, ◌^◌, Err, ◌<◌, ◌≤◌, ◌++◌, [], ◌∷◌, length, true, false, if◌then◌else◌, IfOk, IfErr, OnOk, OnErr, Some, None};
 ghost use Rattle.rvd_fact.specs.Valid.{IsValid};
 ghost use Rattle.rvd_event.specs.Edits.{is_edit};
-ghost use Rattle.rvd_machine.specs.Replies.{refused};
-ghost use Rattle.rvd_machine.specs.State.{first_state, up_to, base, work, lives, lives_of, is_session, is_open};
+ghost use Rattle.rvd_early.specs.Replies.{refused};
+ghost use Rattle.rvd_early.specs.State.{first_state, up_to, base, work, lives, lives_of, is_session, is_open};
 ghost use Rattle.rvd_top.specs.declared.early.CallError.TheVariants.{OutOfMemory};
 ghost use Rattle.rvd_top.specs.Calls.{Did, Failed};
 
@@ -34,7 +34,7 @@ pub(crate) struct Early {
 }
 
 impl Model for Early {
-    ghost use Rattle.rvd_machine.specs.State.{State};
+    ghost use Rattle.rvd_early.specs.State.{State};
 
     ghost Value = { State };
 

@@ -1,6 +1,6 @@
 ghost use Rattle.std.specs.Prelude.{◌≡◌, ◌<◌, true, false, None, IfOk, OnOk, OnErr};
 ghost use Rattle.rvd_journal.specs.Entries.{is_event};
-ghost use Rattle.rvd_machine.specs.Replies.{is_of_analysis};
+ghost use Rattle.rvd_early.specs.Replies.{is_of_analysis};
 ghost use Rattle.rvd_top.specs.Calls.{Did};
 ghost use Rattle.rvd_top.specs.Plays.{is_played, first_unplayed, calls, head_of, Plays, PlaysLine, is_whole};
 

@@ -2,10 +2,10 @@ ghost use Rattle.std.specs.Prelude.{◌≡◌, [], ◌∷◌, vec_len, vec_capac
 ghost use Rattle.std.specs.Option.{option_map};
 ghost use Rattle.rvd_fact.specs.Program.{applied_all};
 ghost use Rattle.rvd_fact.specs.Valid.{Fits};
-ghost use Rattle.rvd_machine.specs.State.{State, lives_in, lives_of_in};
+ghost use Rattle.rvd_early.specs.State.{State, lives_in, lives_of_in};
 ghost use Rattle.rvd_undo.specs.History.{after_commit};
 ghost use Rattle.rvd_undo.specs.Records.{Stands, history};
-ghost use Rattle.rvd_machine.specs.Moves.{begun_in, changed_in, closed_in, commit_step};
+ghost use Rattle.rvd_early.specs.Moves.{begun_in, changed_in, closed_in, commit_step};
 ghost use Rattle.rvd_top.specs.Machine.{open_in, LeadsFrom};
 
 use rvd_event::Step;

@@ -1,5 +1,5 @@
 use Rattle.std.proofs.Common.{◌≡◌}
-use Rattle.rvd_machine.specs.State.{up_to}
+use Rattle.rvd_early.specs.State.{up_to}
 use Rattle.rvd_top.proofs.early.up_to.Given as goal
 
 -- the numbers so far

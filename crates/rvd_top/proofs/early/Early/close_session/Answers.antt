@@ -3,7 +3,7 @@ use Rattle.std.specs.Option.{option_map}
 use Rattle.std.proofs.lemmas.Fn.{filter_same}
 use Rattle.rvd_event.specs.declared.events.Event.TheVariants as event
 use Rattle.rvd_event.specs.declared.replies.Reply.TheVariants as reply
-use Rattle.rvd_machine.specs.State.{State, is_session, without}
+use Rattle.rvd_early.specs.State.{State, is_session, without}
 use Rattle.rvd_top.specs.Calls.{Did}
 use Rattle.rvd_top.specs.Machine.{state_in, open_in}
 use Rattle.rvd_top.proofs.Closing.{did_close}

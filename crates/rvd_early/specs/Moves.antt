@@ -12,7 +12,7 @@ use Rattle.rvd_event.specs.declared.steps.Step.TheVariants as step
 use Rattle.rvd_trans.specs.Entries.{count_of, has_of, without_newest, without_all}
 use Rattle.rvd_undo.specs.History.{after_commit, after_undo, after_redo}
 use Rattle.rvd_edit.specs.Edits.{edit_of}
-use Rattle.rvd_machine.specs.State.{State, Open, base, work, without}
+use Rattle.rvd_early.specs.State.{State, Open, base, work, without}
 
 -- a step is noted
 abbrev pub stepped : State → Step → State

@@ -9,9 +9,9 @@ use Rattle.rvd_event.specs.declared.replies.Reply.{Reply}
 use Rattle.rvd_event.specs.declared.replies.Reply.TheVariants as reply
 use Rattle.rvd_journal.specs.declared.entries.Entry.{Entry}
 use Rattle.rvd_journal.specs.Entries.{is_event}
-use Rattle.rvd_machine.specs.State.{State, lives, lives_of, is_session, first_state}
-use Rattle.rvd_machine.specs.Moves.{move}
-use Rattle.rvd_machine.specs.Replies.{reply_to}
+use Rattle.rvd_early.specs.State.{State, lives, lives_of, is_session, first_state}
+use Rattle.rvd_early.specs.Moves.{move}
+use Rattle.rvd_early.specs.Replies.{reply_to}
 
 -- the most entries of a journal
 abbrev pub max_entries : ℕ

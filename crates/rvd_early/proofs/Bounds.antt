@@ -17,10 +17,10 @@ use Rattle.rvd_trans.specs.declared.entries.Entry.{Entry as LiveEntry}
 use Rattle.rvd_trans.specs.Entries.{count_of, has_of, without_newest, without_all}
 use Rattle.rvd_journal.specs.declared.entries.Entry.{Entry}
 use Rattle.rvd_edit.specs.Edits.{edit_of}
-use Rattle.rvd_machine.specs.State.{State, Open, base, work, lives, lives_in, is_session, without, up_to}
-use Rattle.rvd_machine.specs.Moves.{move, changed_in, edited_by, begun_in, ended_in, closed_in}
-use Rattle.rvd_machine.specs.Replies.{refused, refused_if, answered, is_of_analysis}
-use Rattle.rvd_machine.specs.Steps.{Head, start_of, state_from, state, after, moved, IsStep, AreSteps, IsLegal, IsBounded}
+use Rattle.rvd_early.specs.State.{State, Open, base, work, lives, lives_in, is_session, without, up_to}
+use Rattle.rvd_early.specs.Moves.{move, changed_in, edited_by, begun_in, ended_in, closed_in}
+use Rattle.rvd_early.specs.Replies.{refused, refused_if, answered, is_of_analysis}
+use Rattle.rvd_early.specs.Steps.{Head, start_of, state_from, state, after, moved, IsStep, AreSteps, IsLegal, IsBounded}
 
 -- lists that lose elements
 without_newest-shorter : (a : ℕ) (es : List LiveEntry) → length (without_newest a es) ≤ length es

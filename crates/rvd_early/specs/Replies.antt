@@ -9,8 +9,8 @@ use Rattle.rvd_event.specs.declared.replies.Reply.TheVariants as reply
 use Rattle.rvd_event.specs.declared.replies.Refusal.{Refusal}
 use Rattle.rvd_event.specs.declared.replies.Refusal.TheVariants as refusal
 use Rattle.rvd_edit.specs.Edits.{edit_of}
-use Rattle.rvd_machine.specs.Moves.{entry_ended}
-use Rattle.rvd_machine.specs.State.{State, Open, work, lives, lives_of, is_open, is_session}
+use Rattle.rvd_early.specs.Moves.{entry_ended}
+use Rattle.rvd_early.specs.State.{State, Open, work, lives, lives_of, is_open, is_session}
 
 -- refused where this holds
 abbrev pub refused_if : Bool → Refusal → Option Refusal

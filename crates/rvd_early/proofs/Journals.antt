@@ -1,8 +1,8 @@
 -- A journal that gains an entry at its end. Use `legal-push` for its legality, and `state-push` for the state after it.
 use Rattle.std.proofs.Common.{◌≡◌, List, [], ◌∷◌, ◌++◌, refl}
 use Rattle.rvd_journal.specs.declared.entries.Entry.{Entry}
-use Rattle.rvd_machine.specs.State.{State}
-use Rattle.rvd_machine.specs.Steps.{Head, start_of, state_from, state, after, IsStep, AreSteps, IsLegal}
+use Rattle.rvd_early.specs.State.{State}
+use Rattle.rvd_early.specs.Steps.{Head, start_of, state_from, state, after, IsStep, AreSteps, IsLegal}
 
 pub state_from-push : (s : State) (J : List Entry) (e : Entry) → state_from s (J ++ e ∷ []) ≡ after (state_from s J) e
 state_from-push s [] e = refl
