@@ -1,0 +1,2 @@
+mod FuncsWaking
+mod FuncsFitting

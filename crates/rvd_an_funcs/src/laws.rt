@@ -1,0 +1,16 @@
+ghost use Rattle.rvd_ask.specs.Wake.{WakeLaw};
+ghost use Rattle.rvd_an_funcs.specs.Laws.{FittingLaw};
+
+use rvd_ask::Analyzer;
+
+/// A law of the definitions: where a call went to no new function before a change, and goes to one after it, the change
+/// wakes the analyzer of functions at its target.
+pub fn funcs_wake_law()
+    ensures { WakeLaw Analyzer.Funcs }
+{}
+
+/// A law of the definitions: the changes of the rule of functions may be applied to the valid program that they are found
+/// on.
+pub fn funcs_fit()
+    ensures { FittingLaw Analyzer.Funcs }
+{}

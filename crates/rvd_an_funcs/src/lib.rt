@@ -1,0 +1,11 @@
+//! The analyzers of functions and of bodies: where calls begin functions, and which bytes a function has.
+//!
+//! The rules and what they ask are defined in rvd_ask (`Funcs`, `Reach` and `Body`), and so is which changes wake them
+//! (`Wake`). `specs/Laws.antt` says that a rule's changes may be applied.
+//!
+//! Laws say what the rules are good for: [`funcs_wake_law`] and [`funcs_fit`].
+#![tactic(auto)]
+
+mod laws;
+
+pub use laws::{funcs_fit, funcs_wake_law};
