@@ -14,3 +14,9 @@ pub fn funcs_wake_law()
 pub fn funcs_fit()
     ensures { FittingLaw Analyzer.Funcs }
 {}
+
+/// A law of the definitions: the change of the rule of bodies may be applied to the valid program that it is found on. The
+/// bytes of a reach are a set of ranges.
+pub fn body_fit()
+    ensures { FittingLaw Analyzer.Body }
+{}
