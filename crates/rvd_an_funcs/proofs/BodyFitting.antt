@@ -1,8 +1,7 @@
--- The body that a function lacks fits the program: `body_fitting`. The bytes of its reach are a set of ranges, at an address.
+-- The body that a function lacks fits the program: `body_fits`, or `body_fitting` for the law. The bytes of its reach are a set of ranges, at an address.
 use Rattle.std.proofs.Common.{◌≡◌, ℕ, true, ◌&&◌, [], ◌∷◌, List, Option, Some, None, refl, sym, ap, ◌∙◌, arith}
 use Rattle.std.proofs.lemmas.Bool.{and_parts, cond_both, false≢true}
 use Rattle.std.proofs.lemmas.Option.{same_Some}
-use Rattle.rvd_fact.specs.declared.keys.Key.{Key}
 use Rattle.rvd_fact.specs.declared.cells.Cell.{Cell}
 use Rattle.rvd_fact.specs.declared.values.Source.TheVariants.{Analysis}
 use Rattle.rvd_fact.specs.declared.values.Value.TheVariants.{Body as BodyOf}
@@ -46,11 +45,15 @@ set_fits S e rs valid at ranges =
       tt,
     ))
 
-pub body_fitting : FittingLaw Body
-unfolding rule body_rule
-body_fitting S e valid =
+pub body_fits : (S : Program) (e : ℕ) → IsValid S → Fits S (body_rule S e)
+unfolding body_rule
+body_fits S e valid =
     cond_both (has_open_body S e) (set_body e (cell_at S (body_key e)) (spans (reach S e))) [] (Fits S)
     (λ h.
     let present = (and_parts (is_present (cell_at S (func_key e))) (is_open (cell_at S (body_key e))) h).0 in
     set_fits S e (spans (reach S e)) valid (present_there S e valid (cell_at S (func_key e)) refl present) (are_ranges_test 0 (spans (reach S e)) (reach_ranges S e valid)))
     (λ h. tt)
+
+pub body_fitting : FittingLaw Body
+unfolding rule
+body_fitting S e valid = body_fits S e valid

@@ -1,31 +1,31 @@
 -- The instructions of a valid program rise by steps of 4 and end by 2^32, and so does a reach. Use `reach_rises` and
 -- `reach_ends`.
-use Rattle.std.proofs.Common.{◌≡◌, ℕ, zero, suc, ◌+◌, ◌≤◌, ◌<◌, ◌^◌, Bool, true, false, cond, ◌&&◌, List, [], ◌∷◌, length, Option, Some, None, refl, sym, ap, ◌∙◌, subst, inl, inr, arith}
-use Rattle.std.specs.Prelude.{filter, nat_le, nat_lt, ◌==◌, T}
-use Rattle.std.specs.List.{list_any}
+use Rattle.std.proofs.Common.{◌≡◌, ℕ, zero, suc, ◌+◌, ◌≤◌, ◌<◌, ◌^◌, Bool, true, false, cond, ◌&&◌, [], ◌∷◌, length, Option, Some, None, refl, sym, ap, ◌∙◌, subst, inl, inr, arith}
+use Rattle.std.specs.Prelude.{nat_le, nat_lt, T}
+use Rattle.std.specs.List.{cons_option}
 use Rattle.std.specs.Cmp.{nat_cmp_is}
 use Rattle.std.specs.declared.cmp.Ordering.TheVariants.{Equal, Greater}
 use Rattle.std.specs.Ordering.{is_lt, ordering_then}
 use Rattle.std.specs.FinMap.Entries.{below_all}
 use Rattle.std.proofs.lemmas.Bool.{and_parts, cases_order, eqb-true, false≢true, leb-true}
-use Rattle.std.proofs.lemmas.Bool.Decides.{nat_tests}
+use Rattle.std.proofs.lemmas.Option.{none-some}
 use Rattle.rvd_fact.specs.declared.keys.Kind.{Kind}
 use Rattle.rvd_fact.specs.declared.keys.Kind.TheVariants as kind
 use Rattle.rvd_fact.specs.declared.keys.Key.{Key}
 use Rattle.rvd_fact.specs.declared.cells.Cell.{Cell}
 use Rattle.rvd_fact.specs.declared.values.Value.{Value}
 use Rattle.rvd_fact.specs.declared.values.Value.TheVariants.{Block, Mark, Func, Body, Symbol, Comment, Bookmark, Code, Plain, Ref, Gone}
-use Rattle.rvd_fact.specs.Order.{key_cmp, rank, same_key}
+use Rattle.rvd_fact.specs.Order.{key_cmp, rank}
 use Rattle.rvd_fact.specs.Program.{Program, cell_at, IsInOrder}
 use Rattle.rvd_fact.specs.Memory.{block_key, block_len, has_instruction, is_code, is_instruction, unit_key, unit_len}
 use Rattle.rvd_fact.specs.Valid.{block_span, is_address, is_of, is_whole, may_stand, span, suits, top_sub, unit_span, IsValid}
 use Rattle.rvd_fact.proofs.KeyOrder.{cases_key, same_key_itself, same_kind}
 use Rattle.rvd_fact.proofs.Scans.{absent, first, second}
 use Rattle.rvd_fact.proofs.Validity.{suits-is_of}
-use Rattle.rvd_ask.specs.Reach.{code_address, code_addresses, grown_times, has, reach}
+use Rattle.rvd_ask.specs.Reach.{code_addresses, grown_times, has, reach}
 use Rattle.rvd_ask.proofs.CodeAddresses.{are_codes}
 use Rattle.rvd_ask.proofs.Growing.{has-filter}
-use Rattle.rvd_an_funcs.proofs.Rising.{rises_apart, rises_filter, rises_lower, Rises}
+use Rattle.rvd_an_funcs.proofs.Rising.{rises_apart, rises_filter, Rises}
 
 -- ---- an instruction's key
 unit_rank : (K : Kind) (v : Value) → is_code v ≡ true → is_of K v ≡ true → rank K ≡ 7
@@ -58,16 +58,10 @@ Suit : Program → Type 0
 Suit [] = Unit {0}
 Suit (e ∷ es) = (suits e.0 e.1 ≡ true) × Suit es
 
-None≢Some : (c : Cell) → None ≡ Some c → ⊥
-None≢Some c h = cc
-
-same_Some : (c d : Cell) → Some c ≡ Some d → c ≡ d
-same_Some c d h = cc
-
 -- what is found behind an entry is found from it on
 behind : (e : Key × Cell) (es : Program) (k : Key) (c : Cell) → T (below_all key_cmp e.0 es) → cell_at es k ≡ Some c → cell_at (e ∷ es) k ≡ Some c
 behind e es k c below here = elim (cases_key k e.0) [
-  | inl same ↦ absurd (None≢Some c (sym (absent e.0 es below) ∙ ap (cell_at es) (sym same) ∙ here))
+  | inl same ↦ absurd (none-some c (sym (absent e.0 es below) ∙ ap (cell_at es) (sym same) ∙ here))
   | inr other ↦ ap (λ (b : Bool). cond b (Some e.1) (cell_at es k)) other ∙ here
 ]
 
@@ -104,15 +98,11 @@ codes_behind a (e ∷ es) below fits = (
   codes_behind a es (second _ _ below) fits.1,
 )
 
-filter_cons : Option ℕ → List ℕ → List ℕ
-filter_cons None xs = xs
-filter_cons (Some x) xs = x ∷ xs
-
 codes_rise : (low : ℕ) (es : Program) → IsInOrder es → Suit es → CodesFrom low es → Rises 1 low (code_addresses es)
-unfolding Suit filter_cons
+unfolding Suit
 codes_rise low [] s fits from = tt
 codes_rise low (e ∷ es) s fits from =
-    elim (is_code e.1.value) as (λ b. is_code e.1.value ≡ b → Rises 1 low (filter_cons (cond b (Some e.0.at) None) (code_addresses es))) [
+    elim (is_code e.1.value) as (λ b. is_code e.1.value ≡ b → Rises 1 low (cons_option (cond b (Some e.0.at) None) (code_addresses es))) [
       | true ↦ λ code.
           let below : T (below_all key_cmp (unit_key e.0.at) es) = subst (λ (k : Key). T (below_all key_cmp k es)) (unit_key_is e.0 e.1 fits.0 code) (first _ _ s) in
           (from.0 code, codes_rise (e.0.at + 1) es (second _ _ s) fits.1 (codes_behind e.0.at es below fits.1))

@@ -1,14 +1,14 @@
 -- The ranges of the bytes of instructions. Use `spans_have` for which addresses they have, `spans_member` for that they have
 -- the addresses of members, and `spans_ranges` for that they are a set of ranges where the members rise by steps of 4.
-use Rattle.std.proofs.Common.{◌≡◌, ℕ, ◌+◌, ◌≤◌, ◌<◌, ◌^◌, Bool, true, false, cond, ◌&&◌, ◌||◌, List, [], ◌∷◌, refl, sym, ap, ◌∙◌, inl, inr, arith}
+use Rattle.std.proofs.Common.{◌≡◌, ℕ, ◌+◌, ◌≤◌, ◌^◌, Bool, true, ◌&&◌, ◌||◌, List, [], ◌∷◌, refl, ap, ◌∙◌, arith}
 use Rattle.std.specs.Prelude.{nat_le, ◌==◌}
 use Rattle.std.specs.List.{list_any}
-use Rattle.std.proofs.lemmas.Bool.{and_from, cond_both, eq-eqb, eqb-true, eqb-false, false≢true, le-leb, or_right}
+use Rattle.std.proofs.lemmas.Bool.{and_from, cond_both, eqb-true, eqb-false, le-leb, or_right}
 use Rattle.std.proofs.lemmas.Bool.Decides.{nat_tests}
-use Rattle.rvd_fact.specs.Ranges.{has_address, in_range, AreRangesFrom}
+use Rattle.rvd_fact.specs.Ranges.{has_address, AreRangesFrom}
 use Rattle.rvd_ask.specs.Reach.{has, spans, with_word}
 use Rattle.rvd_ask.proofs.Growing.{any_from}
-use Rattle.rvd_an_funcs.proofs.Rising.{none_lower, first_of, Rises}
+use Rattle.rvd_an_funcs.proofs.Rising.{first_of, Rises}
 
 -- whether an address is one of the four bytes of a word
 abbrev pub in_word : ℕ → ℕ → Bool

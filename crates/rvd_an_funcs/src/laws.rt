@@ -1,5 +1,5 @@
 ghost use Rattle.rvd_ask.specs.Wake.{WakeLaw};
-ghost use Rattle.rvd_an_funcs.specs.Laws.{FittingLaw};
+ghost use Rattle.rvd_an_funcs.specs.Laws.{FittingLaw, SettlingLaw};
 
 use rvd_ask::Analyzer;
 
@@ -19,4 +19,15 @@ pub fn funcs_fit()
 /// bytes of a reach are a set of ranges.
 pub fn body_fit()
     ensures { FittingLaw Analyzer.Body }
+{}
+
+/// A law of the definitions: after the change of the rule of bodies at an entry, the rule has no change there.
+pub fn body_settled()
+    ensures { SettlingLaw Analyzer.Body }
+{}
+
+/// A law of the definitions: where a function had the body of its reach before a change, and lacks it after the change, the
+/// change wakes the analyzer of bodies at its entry.
+pub fn body_wake_law()
+    ensures { WakeLaw Analyzer.Body }
 {}

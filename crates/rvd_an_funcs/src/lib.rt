@@ -8,4 +8,4 @@
 
 mod laws;
 
-pub use laws::{body_fit, funcs_fit, funcs_wake_law};
+pub use laws::{body_fit, body_settled, body_wake_law, funcs_fit, funcs_wake_law};
