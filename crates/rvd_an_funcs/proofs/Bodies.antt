@@ -59,7 +59,8 @@ no_change S e h =
     (λ opened. cond-true (has_body (spans (reach S e)) (cell_at S (body_key e))) [] _ (h opened))
     (λ shut. refl)
 
-some_change : (c : Change) → c ∷ [] ≡ [] → ⊥
+-- a change isn't none
+pub some_change : (c : Change) → c ∷ [] ≡ [] → ⊥
 some_change c h = cc
 
 pub had_body : (S : Program) (e : ℕ) → body_rule S e ≡ [] → has_open_body S e ≡ true → has_body (spans (reach S e)) (cell_at S (body_key e)) ≡ true

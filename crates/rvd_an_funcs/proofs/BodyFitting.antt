@@ -16,9 +16,9 @@ use Rattle.rvd_ask.specs.Body.{body_rule, has_body, has_open_body, is_open, set_
 use Rattle.rvd_ask.specs.Places.{body_key}
 use Rattle.rvd_ask.specs.Reach.{reach, spans}
 use Rattle.rvd_ask.specs.Rules.{rule}
-use Rattle.rvd_an_funcs.specs.Laws.{FittingLaw}
+use Rattle.rvd_ask.specs.Fitting.{FittingLaw}
 use Rattle.rvd_an_funcs.proofs.CodeOrder.{reach_ends, reach_rises}
-use Rattle.rvd_an_funcs.proofs.FuncsFitting.{address_there}
+use Rattle.rvd_an_funcs.proofs.Suiting.{address_there}
 use Rattle.rvd_an_funcs.proofs.Spans.{spans_ranges}
 
 -- the bytes of a reach are a set of ranges

@@ -1,8 +1,8 @@
 -- The wake law of bodies: a change that doesn't wake the rule at an entry, where the rule had no change, avoids the reach of
 -- the entry or is at its body. `wakes_body_law` says it whole.
-use Rattle.std.proofs.Common.{◌≡◌, ℕ, ◌+◌, ◌≤◌, ◌^◌, Bool, true, false, ◌&&◌, [], ◌∷◌, Option, Some, None, refl, sym, ap, ◌∙◌, inl, inr, arith}
+use Rattle.std.proofs.Common.{◌≡◌, ℕ, ◌+◌, ◌≤◌, ◌^◌, true, false, ◌&&◌, [], Option, Some, None, sym, ap, ◌∙◌, inl, inr, arith}
 use Rattle.std.specs.Prelude.{is_none, ◌==◌}
-use Rattle.std.proofs.lemmas.Bool.{and_parts, both_ways, eq-eqb, false≢true, or_parts, true≢false}
+use Rattle.std.proofs.lemmas.Bool.{and_cases, and_parts, both_ways, eq-eqb, false≢true, or_parts, true≢false}
 use Rattle.rvd_fact.specs.declared.keys.Kind.{Kind}
 use Rattle.rvd_fact.specs.declared.keys.Kind.TheVariants as kind
 use Rattle.rvd_fact.specs.declared.keys.Key.{Key}
@@ -21,7 +21,7 @@ use Rattle.rvd_ask.specs.Rules.{rule}
 use Rattle.rvd_ask.specs.Wake.{body_has, body_has_from, cell_body_with, is_near, is_own, wakes, wakes_body, Leads, WakeLaw}
 use Rattle.rvd_ask.proofs.CodeAddresses.{are_codes}
 use Rattle.rvd_ask.proofs.ReachWalks.{member}
-use Rattle.rvd_an_funcs.proofs.Bodies.{body_covers, had_body, no_change}
+use Rattle.rvd_an_funcs.proofs.Bodies.{body_covers, had_body, no_change, some_change}
 use Rattle.rvd_an_funcs.proofs.CodeOrder.{reach_ends}
 use Rattle.rvd_an_funcs.proofs.Coming.{came_from}
 use Rattle.rvd_an_funcs.proofs.Steps.{is_place, is_read, reach_stays, Avoids}
@@ -39,7 +39,7 @@ asleep_near T c e kind.Bookmark h place = absurd (false≢true place)
 asleep_near T c e kind.Ref h place = absurd (false≢true place)
 
 -- not near z, in parts
-pub record NotNear (T : Program) (z e : ℕ) : Type 0 where
+record NotNear (T : Program) (z e : ℕ) : Type 0 where
   entry : (e == z) ≡ false
   here : body_has T e z ≡ false
   before : body_has T e (word_before z) ≡ false
@@ -68,9 +68,6 @@ own_open : (o : Option Cell) → is_none o ≡ false → is_open o ≡ true → 
 own_open None h opened = absurd (true≢false h)
 own_open (Some c) h opened = opened
 
-some_change : (c : Change) → [] ≡ c ∷ [] → ⊥
-some_change c h = cc
-
 module _ (S : Program) (c : Change) (e : ℕ) (l : Leads S c) (asleep : wakes_body c.key.kind (applied S c) c e ≡ false) (settled : body_rule S e ≡ []) where
   abbrev T : Program
   T = applied S c
@@ -80,13 +77,12 @@ module _ (S : Program) (c : Change) (e : ℕ) (l : Leads S c) (asleep : wakes_bo
   at_body same opened =
       let here : (e == c.key.at) ≡ true = eq-eqb e c.key.at (ap (λ (q : Key). q.at) same) in
       let sets : (is_none c.after && e == c.key.at) ≡ false = ap (λ (q : Key). wakes_body q.kind T c e) same ∙ asleep in
-      let is_set : is_none c.after ≡ false = (λ i. and_true (is_none c.after) i) ∙ sym (ap (λ b. is_none c.after && b) here) ∙ sets in
+      let is_set : is_none c.after ≡ false = elim (and_cases (is_none c.after) (e == c.key.at) sets) [
+        | inl set ↦ set
+        | inr there ↦ absurd (both_ways (e == c.key.at) there here)
+      ] in
       let free : is_open c.after ≡ true = ap is_open (sym (cell_at_placed S c.key c.after) ∙ ap (cell_at T) (sym same)) ∙ (and_parts (is_present (cell_at T (func_key e))) (is_open (cell_at T (body_key e))) opened).1 in
-      some_change c (sym settled ∙ l.by_rule e (sym same) (own_open c.after is_set free))
-    where
-      and_true : (b : Bool) → b ≡ (b && true)
-      and_true true = refl
-      and_true false = refl
+      some_change c (sym (l.by_rule e (sym same) (own_open c.after is_set free)) ∙ settled)
 
   -- ---- a change elsewhere
   other_cell : (k : Key) → (k ≡ c.key → ⊥) → cell_at T k ≡ cell_at S k

@@ -1,6 +1,6 @@
 -- The instructions of a valid program rise by steps of 4 and end by 2^32, and so does a reach. Use `reach_rises` and
 -- `reach_ends`.
-use Rattle.std.proofs.Common.{◌≡◌, ℕ, zero, suc, ◌+◌, ◌≤◌, ◌<◌, ◌^◌, Bool, true, false, cond, ◌&&◌, [], ◌∷◌, length, Option, Some, None, refl, sym, ap, ◌∙◌, subst, inl, inr, arith}
+use Rattle.std.proofs.Common.{◌≡◌, ℕ, zero, suc, ◌+◌, ◌≤◌, ◌<◌, ◌^◌, Bool, true, false, cond, [], ◌∷◌, length, Option, Some, None, refl, sym, ap, ◌∙◌, subst, inl, inr, arith}
 use Rattle.std.specs.Prelude.{nat_le, nat_lt, T}
 use Rattle.std.specs.List.{cons_option}
 use Rattle.std.specs.Cmp.{nat_cmp_is}
@@ -18,7 +18,7 @@ use Rattle.rvd_fact.specs.declared.values.Value.TheVariants.{Block, Mark, Func, 
 use Rattle.rvd_fact.specs.Order.{key_cmp, rank}
 use Rattle.rvd_fact.specs.Program.{Program, cell_at, IsInOrder}
 use Rattle.rvd_fact.specs.Memory.{block_key, block_len, has_instruction, is_code, is_instruction, unit_key, unit_len}
-use Rattle.rvd_fact.specs.Valid.{block_span, is_address, is_of, is_whole, may_stand, span, suits, top_sub, unit_span, IsValid}
+use Rattle.rvd_fact.specs.Valid.{block_span, is_address, is_of, is_whole, span, suits, top_sub, unit_span, IsValid}
 use Rattle.rvd_fact.proofs.KeyOrder.{cases_key, same_key_itself, same_kind}
 use Rattle.rvd_fact.proofs.Scans.{absent, first, second}
 use Rattle.rvd_fact.proofs.Validity.{suits-is_of}
@@ -26,6 +26,7 @@ use Rattle.rvd_ask.specs.Reach.{code_addresses, grown_times, has, reach}
 use Rattle.rvd_ask.proofs.CodeAddresses.{are_codes}
 use Rattle.rvd_ask.proofs.Growing.{has-filter}
 use Rattle.rvd_an_funcs.proofs.Rising.{rises_apart, rises_filter, Rises}
+use Rattle.rvd_an_funcs.proofs.Suiting.{whole_there}
 
 -- ---- an instruction's key
 unit_rank : (K : Kind) (v : Value) → is_code v ≡ true → is_of K v ≡ true → rank K ≡ 7
@@ -147,14 +148,9 @@ block_end b n (Plain f) whole more h = absurd (omega (arith, more, h))
 block_end b n (Ref to class) whole more h = absurd (omega (arith, more, h))
 block_end b n Gone whole more h = absurd (omega (arith, more, h))
 
-whole_at : (k : Key) (c : Cell) → suits k c ≡ true → is_whole k.at c.value ≡ true
-whole_at k c h =
-    let behind_address = (and_parts (is_address k.at) _ (and_parts (is_of k.kind c.value) _ h).1).1 in
-    (and_parts (is_whole k.at c.value) (may_stand c.source c.value) (and_parts _ (is_whole k.at c.value && may_stand c.source c.value) behind_address).1).0
-
 ends_in : (S : Program) (b n : ℕ) → IsValid S → (o : Option Cell) → cell_at S (block_key b) ≡ o → b < n → n ≤ b + span block_len o → n ≤ 2 ^ 32
 ends_in S b n valid None here more h = absurd (omega (arith, more, h))
-ends_in S b n valid (Some c) here more h = block_end b n c.value (whole_at (block_key b) c (valid.cells (block_key b) c here)) more h
+ends_in S b n valid (Some c) here more h = block_end b n c.value (whole_there (block_key b) c (valid.cells (block_key b) c here)) more h
 
 pub code_ends : (S : Program) (z : ℕ) → IsValid S → has_instruction S z ≡ true → z + 4 ≤ 2 ^ 32
 code_ends S z valid code =

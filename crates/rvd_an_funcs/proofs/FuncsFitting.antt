@@ -4,27 +4,23 @@ use Rattle.std.proofs.Common.{◌≡◌, ℕ, true, ◌&&◌, [], ◌∷◌, Opt
 use Rattle.std.specs.Prelude.{is_none}
 use Rattle.std.proofs.lemmas.Bool.{and_parts, cond_both, false≢true}
 use Rattle.std.proofs.lemmas.Option.{same_Some}
-use Rattle.rvd_fact.specs.declared.keys.Key.{Key}
 use Rattle.rvd_fact.specs.declared.cells.Cell.{Cell}
 use Rattle.rvd_fact.specs.declared.values.Source.TheVariants.{Analysis}
 use Rattle.rvd_fact.specs.declared.values.Value.TheVariants.{Func}
 use Rattle.rvd_fact.specs.Program.{Program, cell_at}
 use Rattle.rvd_fact.specs.Memory.{func_key, has_instruction, is_instruction, unit_key}
-use Rattle.rvd_fact.specs.Valid.{is_address, is_of, suits, Fits, IsValid}
+use Rattle.rvd_fact.specs.Valid.{is_address, suits, Fits, IsValid}
 use Rattle.rvd_fact.proofs.Validity.{valid_placed}
 use Rattle.rvd_ask.specs.declared.asks.Analyzer.TheVariants.{Funcs}
 use Rattle.rvd_ask.specs.Funcs.{funcs_rule, is_new_function}
 use Rattle.rvd_ask.specs.Places.{addition}
 use Rattle.rvd_ask.specs.Rules.{rule}
-use Rattle.rvd_an_funcs.specs.Laws.{FittingLaw}
+use Rattle.rvd_ask.specs.Fitting.{FittingLaw}
+use Rattle.rvd_an_funcs.proofs.Suiting.{address_there}
 
 none_there : (o : Option Cell) → is_none o ≡ true → o ≡ None
 none_there None h = refl
 none_there (Some c) h = absurd (false≢true h)
-
--- a cell stands at an address
-pub address_there : (k : Key) (c : Cell) → suits k c ≡ true → is_address k.at ≡ true
-address_there k c h = (and_parts (is_address k.at) _ (and_parts (is_of k.kind c.value) _ h).1).0
 
 instruction_there : (S : Program) (t : ℕ) → IsValid S → (o : Option Cell) → cell_at S (unit_key t) ≡ o → is_instruction o ≡ true → is_address t ≡ true
 instruction_there S t valid None here h = absurd (false≢true h)

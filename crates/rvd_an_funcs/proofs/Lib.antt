@@ -1,12 +1,13 @@
+mod Suiting
 mod FuncsWaking
 mod FuncsFitting
 pub mod Rising
 pub mod Spans
 pub mod CodeOrder
+mod Walks
+mod Steps
+mod Coming
 mod BodyFitting
-pub mod Walks
-pub mod Steps
-pub mod Coming
-pub mod Bodies
+mod Bodies
 mod BodySettling
 mod BodyWaking

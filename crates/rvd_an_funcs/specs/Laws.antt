@@ -1,16 +1,11 @@
--- What it means that the changes of an analyzer's rule can be applied, and that they leave nothing to change. Use
--- `FittingLaw` and `SettlingLaw` for a rule as a whole.
+-- What it means that the changes of an analyzer's rule leave nothing to change. Use `SettlingLaw` for a rule as a whole.
 use Rattle.std.specs.Prelude.{◌≡◌, ℕ, []}
 use Rattle.rvd_fact.specs.Program.{Program, applied_all}
-use Rattle.rvd_fact.specs.Valid.{Fits, IsValid}
+use Rattle.rvd_fact.specs.Valid.{IsValid}
 use Rattle.rvd_ask.specs.declared.asks.Analyzer.{Analyzer}
 use Rattle.rvd_ask.specs.Rules.{rule}
 use Rattle.rvd_ask.specs.Wake.{item}
 
--- on a valid program the changes of the rule may be applied in turn
-abbrev pub FittingLaw : Analyzer → Type 0
-FittingLaw a = (S : Program) (at : ℕ) → IsValid S → Fits S (rule S (item a at))
-
--- after the changes of the rule at an address, the rule has no change there
+-- on a valid program, after the changes of the rule at an address the rule has no change there
 abbrev pub SettlingLaw : Analyzer → Type 0
 SettlingLaw a = (S : Program) (at : ℕ) → IsValid S → rule (applied_all S (rule S (item a at))) (item a at) ≡ []
