@@ -1,0 +1,10 @@
+pub mod Rooms
+pub mod TextBytes
+pub mod Strings
+pub mod TextSteps
+pub mod Wholes
+pub mod Locality
+mod NewUnits
+pub mod Units
+pub mod Fitting
+pub mod Waking
