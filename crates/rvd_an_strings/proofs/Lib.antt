@@ -1,3 +1,4 @@
+mod Rows
 pub mod Rooms
 pub mod TextBytes
 pub mod Strings
