@@ -1,0 +1,57 @@
+-- Tests that agree: `agree` from both ways, `any_as` and `any_or` for whether some element passes, and `all_same` for numbers
+-- in either order.
+use Rattle.std.proofs.Common.{◌≡◌, ℕ, Bool, true, false, ◌&&◌, ◌||◌, List, [], ◌∷◌, map, refl, sym, ap, ◌∙◌, arith}
+use Rattle.std.proofs.lemmas.Bool.{true≢false, false≢true}
+use Rattle.std.proofs.lemmas.Bool.Decides.{nat_tests}
+use Rattle.std.specs.Prelude.{Option, Some, None, filter, filter_map, ◌==◌}
+use Rattle.std.specs.List.{list_any, cons_option}
+use Rattle.std.specs.Option.{option_map_or}
+
+-- two tests of which each says yes where the other does
+pub agree : (a b : Bool) → (a ≡ true → b ≡ true) → (b ≡ true → a ≡ true) → a ≡ b
+agree true true there back = refl
+agree true false there back = absurd (false≢true (there refl))
+agree false true there back = absurd (false≢true (back refl))
+agree false false there back = refl
+
+pub and_true : (b : Bool) → (b && true) ≡ b
+and_true true = refl
+and_true false = refl
+
+pub and_false : (b : Bool) → (b && false) ≡ false
+and_false true = refl
+and_false false = refl
+
+pub or_false : (b : Bool) → (b || false) ≡ b
+or_false true = refl
+or_false false = refl
+
+pub same_number : (x y : ℕ) → (x == y) ≡ (y == x)
+same_number x y = grind (arith, nat_tests)
+
+-- tests that agree at each element
+pub any_as : {X : Type 0} (p q : X → Bool) → ((x : X) → p x ≡ q x) → (xs : List X) → list_any p xs ≡ list_any q xs
+any_as p q same [] = refl
+any_as p q same (x ∷ xs) = λ i. same x i || any_as p q same xs i
+
+or_swap : (a b c d : Bool) → ((a || b) || (c || d)) ≡ ((a || c) || (b || d))
+or_swap true b c d = refl
+or_swap false true true d = refl
+or_swap false true false d = refl
+or_swap false false c d = refl
+
+pub any_or : {X : Type 0} (p q : X → Bool) (xs : List X) → list_any (λ x. p x || q x) xs ≡ (list_any p xs || list_any q xs)
+any_or p q [] = refl
+any_or p q (x ∷ xs) = ap (λ b. (p x || q x) || b) (any_or p q xs) ∙ or_swap (p x) (q x) (list_any p xs) (list_any q xs)
+
+pub any-map : {X Y : Type 0} (p : Y → Bool) (f : X → Y) (xs : List X) → list_any p (map f xs) ≡ list_any (λ x. p (f x)) xs
+any-map p f [] = refl
+any-map p f (x ∷ xs) = ap (λ b. p (f x) || b) (any-map p f xs)
+
+pub any-filter_map : {X Y : Type 0} (p : Y → Bool) (f : X → Option Y) (xs : List X) → list_any p (filter_map f xs) ≡ list_any (λ x. option_map_or p (f x) false) xs
+any-filter_map p f [] = refl
+any-filter_map {X = X} {Y = Y} p f (x ∷ xs) = first (f x) ∙ ap (λ b. option_map_or p (f x) false || b) (any-filter_map p f xs)
+  where
+    first : (o : Option Y) → list_any p (cons_option o (filter_map f xs)) ≡ (option_map_or p o false || list_any p (filter_map f xs))
+    first None = refl
+    first (Some y) = refl

@@ -1,0 +1,4 @@
+mod Bools
+mod Members
+mod Picks
+mod Listed
