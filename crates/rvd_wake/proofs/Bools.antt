@@ -1,9 +1,9 @@
 -- Tests that agree: `agree` from both ways, `any_as` and `any_or` for whether some element passes, and `all_same` for numbers
 -- in either order.
-use Rattle.std.proofs.Common.{◌≡◌, ℕ, Bool, true, false, ◌&&◌, ◌||◌, List, [], ◌∷◌, map, refl, sym, ap, ◌∙◌, arith}
-use Rattle.std.proofs.lemmas.Bool.{true≢false, false≢true}
+use Rattle.std.proofs.Common.{◌≡◌, ℕ, Bool, true, false, ◌&&◌, ◌||◌, List, [], ◌∷◌, map, refl, sym, ap, ◌∙◌, inl, inr, arith}
+use Rattle.std.proofs.lemmas.Bool.{false≢true, or_cases}
 use Rattle.std.proofs.lemmas.Bool.Decides.{nat_tests}
-use Rattle.std.specs.Prelude.{Option, Some, None, filter, filter_map, ◌==◌}
+use Rattle.std.specs.Prelude.{Option, Some, None, filter_map, ◌==◌}
 use Rattle.std.specs.List.{list_any, cons_option}
 use Rattle.std.specs.Option.{option_map_or}
 
@@ -55,3 +55,29 @@ any-filter_map {X = X} {Y = Y} p f (x ∷ xs) = first (f x) ∙ ap (λ b. option
     first : (o : Option Y) → list_any p (cons_option o (filter_map f xs)) ≡ (option_map_or p o false || list_any p (filter_map f xs))
     first None = refl
     first (Some y) = refl
+
+-- some element that passes
+pub any_elim : {X : Type 0} {Q : Type 0} (p : X → Bool) (xs : List X) → list_any p xs ≡ true → ((x : X) → p x ≡ true → Q) → Q
+any_elim p [] h use_it = absurd (false≢true h)
+any_elim p (x ∷ xs) h use_it = elim (or_cases (p x) (list_any p xs) h) [
+  | inl here ↦ use_it x here
+  | inr later ↦ any_elim p xs later use_it
+]
+
+pub any_none : {X : Type 0} (xs : List X) → list_any (λ x. false) xs ≡ false
+any_none [] = refl
+any_none (x ∷ xs) = any_none xs
+
+-- a test of the elements of two lists, in either order of them
+pub any_any : {X Y : Type 0} (p : X → Y → Bool) (xs : List X) (ys : List Y) → list_any (λ x. list_any (p x) ys) xs ≡ list_any (λ y. list_any (λ x. p x y) xs) ys
+any_any p [] ys = sym (any_none ys)
+any_any p (x ∷ xs) ys = ap (λ b. list_any (p x) ys || b) (any_any p xs ys) ∙ sym (any_or (p x) (λ y. list_any (λ x. p x y) xs) ys)
+
+-- a part that is the same for all elements
+pub any_and : {X : Type 0} (b : Bool) (p : X → Bool) (xs : List X) → list_any (λ x. b && p x) xs ≡ (b && list_any p xs)
+any_and b p [] = sym (and_false b)
+any_and b p (x ∷ xs) = ap (λ c. (b && p x) || c) (any_and b p xs) ∙ factored b (p x) (list_any p xs)
+  where
+    factored : (s c d : Bool) → ((s && c) || (s && d)) ≡ (s && (c || d))
+    factored true c d = refl
+    factored false c d = refl

@@ -2,3 +2,10 @@ mod Bools
 mod Members
 mod Picks
 mod Listed
+mod Words
+mod FromPlaces
+mod FlowPlaces
+mod Between
+mod BodyPlaces
+mod DataPlaces
+mod AllItems

@@ -1,5 +1,5 @@
 -- The list of an analyzer's items at the addresses that pass a test. Use `listed` for candidates.
-use Rattle.std.proofs.Common.{◌≡◌, ℕ, ◌<◌, ◌^◌, Bool, true, false, ◌&&◌, List, [], ◌++◌, map, refl, sym, ap, ◌∙◌}
+use Rattle.std.proofs.Common.{◌≡◌, ℕ, ◌<◌, ◌^◌, Bool, true, false, ◌&&◌, List, [], ◌++◌, map, refl, ap, ◌∙◌}
 use Rattle.std.specs.Prelude.{nat_lt}
 use Rattle.std.specs.List.{All}
 use Rattle.std.proofs.lemmas.Bool.{eqb-true}
@@ -7,7 +7,7 @@ use Rattle.rvd_fact.specs.Program.{Program}
 use Rattle.rvd_ask.specs.declared.asks.Analyzer.{Analyzer}
 use Rattle.rvd_ask.specs.declared.asks.Item.{Item}
 use Rattle.rvd_ask.specs.Order.{priority}
-use Rattle.rvd_ask.specs.Unsettled.{candidates, has_item, items_below, same_analyzer, IsOnlyListing, ListingLaw, ListsJust}
+use Rattle.rvd_ask.specs.Unsettled.{candidates, same_analyzer, ListingLaw, ListsJust}
 use Rattle.rvd_ask.specs.Wake.{candidate_of, is_candidate, item}
 use Rattle.rvd_ask.proofs.ItemOrder.{same_analyzer as by_priority}
 use Rattle.rvd_wake.specs.Walks.{AreJust, Orders, has_place}

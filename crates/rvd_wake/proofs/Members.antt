@@ -1,8 +1,8 @@
 -- Lists of items by their members: what `add_items` and `ordered` make. Use `from_set` for a list that a set in order was
 -- made of, `has_item-at` for an analyzer's items at some places, and `within` for places that are addresses.
-use Rattle.std.proofs.Common.{◌≡◌, ℕ, ◌<◌, ◌^◌, Bool, true, false, ◌&&◌, ◌||◌, List, [], ◌∷◌, map, refl, sym, ap, ◌∙◌, subst, inl, inr, arith}
+use Rattle.std.proofs.Common.{◌≡◌, ℕ, ◌<◌, Bool, true, false, ◌&&◌, ◌||◌, List, [], ◌∷◌, map, refl, sym, ap, ◌∙◌, subst, inl, inr, arith}
 use Rattle.std.specs.Prelude.{nat_lt, ◌==◌}
-use Rattle.std.specs.List.{list_all, list_any, All, AllByRecursion}
+use Rattle.std.specs.List.{list_all, All, AllByRecursion}
 use Rattle.std.proofs.lemmas.List.Elements.{All-head, All-tail}
 use Rattle.std.specs.declared.cmp.Ordering.{Ordering}
 use Rattle.std.specs.declared.cmp.Ordering.TheVariants.{Less, Equal, Greater}
@@ -18,8 +18,8 @@ use Rattle.rvd_ask.specs.Order.{item_cmp, priority, same_item}
 use Rattle.rvd_ask.specs.Unsettled.{are_in_order, comes_before, has_item, same_analyzer}
 use Rattle.rvd_ask.specs.Wake.{item}
 use Rattle.rvd_ask.proofs.ItemOrder.{derived_is}
-use Rattle.rvd_wake.specs.Walks.{AreJust, Orders, has_place, is_at}
-use Rattle.rvd_wake.proofs.Bools.{and_false, same_number}
+use Rattle.rvd_wake.specs.Walks.{Orders, has_place, is_at}
+use Rattle.rvd_wake.proofs.Bools.{and_false}
 
 all_before : (i : Item) (items : List Item) → AllByRecursion (λ j. item_cmp i j ≡ Less) items → list_all (comes_before i) items ≡ true
 all_before i [] h = refl

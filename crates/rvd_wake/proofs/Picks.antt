@@ -1,6 +1,6 @@
 -- What the walks pick, by the cells of a valid program. Use `at_key` for the facts of a kind that has one fact at an address,
 -- and `candidates_are` for the places of candidates.
-use Rattle.std.proofs.Common.{◌≡◌, ℕ, ◌≤◌, Bool, true, false, ◌&&◌, ◌||◌, not, List, [], ◌∷◌, Option, Some, None, refl, sym, ap, ◌∙◌, cond, arith}
+use Rattle.std.proofs.Common.{◌≡◌, ℕ, ◌≤◌, Bool, true, false, ◌&&◌, ◌||◌, not, Option, Some, None, refl, sym, ap, ◌∙◌, cond, arith}
 use Rattle.std.specs.Prelude.{◌==◌, nat_le, filter_map}
 use Rattle.std.specs.List.{list_any}
 use Rattle.std.specs.Option.{option_map_or}
@@ -9,19 +9,18 @@ use Rattle.rvd_fact.specs.declared.keys.Kind.{Kind}
 use Rattle.rvd_fact.specs.declared.keys.Kind.TheVariants as kind
 use Rattle.rvd_fact.specs.declared.keys.Key.{Key}
 use Rattle.rvd_fact.specs.declared.cells.Cell.{Cell}
-use Rattle.rvd_fact.specs.declared.values.RefClass.{RefClass}
-use Rattle.rvd_fact.specs.declared.values.RefClass.TheVariants.{Call, Jump, Cond, Datum, Read, Write}
+use Rattle.rvd_fact.specs.declared.values.RefClass.TheVariants.{Call, Datum, Read}
 use Rattle.rvd_fact.specs.declared.values.Value.{Value}
 use Rattle.rvd_fact.specs.declared.values.Value.TheVariants.{Ref}
 use Rattle.rvd_fact.specs.Program.{Program, cell_at, is_gone, is_present}
-use Rattle.rvd_fact.specs.Memory.{func_key, has_ref_to, key_of, refers, unit_key}
+use Rattle.rvd_fact.specs.Memory.{key_of, refers}
 use Rattle.rvd_fact.specs.Valid.{IsValid, is_address, is_of, is_whole, may_stand, suits, top_sub}
 use Rattle.rvd_fact.proofs.Scans.{found, scanned, Found}
 use Rattle.rvd_ask.specs.declared.asks.Analyzer.{Analyzer}
 use Rattle.rvd_ask.specs.declared.asks.Analyzer.TheVariants.{Flow, Refs, Funcs, Body, Strings}
-use Rattle.rvd_ask.specs.Places.{mark_key}
 use Rattle.rvd_ask.specs.Wake.{candidate_of}
-use Rattle.rvd_wake.specs.Walks.{called, candidate_place, data_at, has_place, is_func, is_unit, present_at, starts_flow, AreJust}
+use Rattle.rvd_wake.specs.Walks.{AreJust}
+use Rattle.rvd_wake.specs.Picks.{called, candidate_place, data_at, is_func, is_unit, starts_flow}
 use Rattle.rvd_wake.proofs.Bools.{agree, and_false, and_true, any-filter_map, any_as, any_or, or_false}
 
 -- whether a cell is there and its value passes
@@ -129,7 +128,7 @@ called_is a (Ref to Call) = sym (and_true (to == a))
 called_is a (Ref to class) = sym (and_false (to == a))
 called_is a v = refl
 
-data_is : (a : ℕ) (v : Value) → option_map_or (λ p. p == a) (data_at v) false ≡ (refers a Datum v || refers a Read v)
+pub data_is : (a : ℕ) (v : Value) → option_map_or (λ p. p == a) (data_at v) false ≡ (refers a Datum v || refers a Read v)
 data_is a (Ref to Datum) = sym ((λ i. and_true (to == a) i || and_false (to == a) i) ∙ or_false (to == a))
 data_is a (Ref to Read) = sym (λ i. and_false (to == a) i || and_true (to == a) i)
 data_is a (Ref to class) = sym (λ i. and_false (to == a) i || and_false (to == a) i)

@@ -1,7 +1,8 @@
 ghost use Rattle.std.specs.Prelude.{◌≡◌, ◌&&◌, IfOk, filter_map};
 ghost use Rattle.rvd_ask.specs.Unsettled.{candidates as candidates_of};
 ghost use Rattle.rvd_ask.specs.Wake.{candidate_of};
-ghost use Rattle.rvd_wake.specs.Walks.{AreJust, starts_flow, is_unit, is_func, present_at, called, data_at, candidate_place as place_of};
+ghost use Rattle.rvd_wake.specs.Walks.{AreJust};
+ghost use Rattle.rvd_wake.specs.Picks.{starts_flow, is_unit, is_func, present_at, called, data_at, candidate_place as place_of};
 
 use crate::ordering::{add_items, ordered};
 use rvd_ask::{Analyzer, Item, listing_law};
@@ -105,7 +106,7 @@ fn called(value: &Value) -> Option<Addr>
 }
 
 // The target of a reference to data.
-fn data_at(value: &Value) -> Option<Addr>
+pub fn data_at(value: &Value) -> Option<Addr>
     ensures { result ≡ data_at value.now }
 {
     match value {

@@ -9,8 +9,17 @@
 //! entries of a program pick.
 #![tactic(auto)]
 
+mod bodies;
 mod candidate;
+mod flow;
+mod froms;
+mod gone;
 mod ordering;
+mod places;
+mod refs;
+mod targets;
+mod waking;
 
 pub use candidate::candidates;
 pub use std::alloc::AllocError as OutOfMemory;
+pub use waking::woken;

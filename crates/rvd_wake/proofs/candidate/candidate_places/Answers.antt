@@ -4,7 +4,8 @@ use Rattle.std.specs.Prelude.{filter_map}
 use Rattle.rvd_fact.specs.declared.keys.Key.{Key}
 use Rattle.rvd_fact.specs.declared.cells.Cell.{Cell}
 use Rattle.rvd_ask.specs.Wake.{candidate_of}
-use Rattle.rvd_wake.specs.Walks.{AreJust, candidate_place}
+use Rattle.rvd_wake.specs.Walks.{AreJust}
+use Rattle.rvd_wake.specs.Picks.{candidate_place}
 use Rattle.rvd_wake.proofs.Picks.{candidates_are}
 use Rattle.rvd_wake.proofs.candidate.candidate_places.Goals as goal
 

@@ -1,8 +1,7 @@
-use Rattle.std.proofs.Common.{◌≡◌, ◌<◌, ◌^◌, ◌++◌, [], map, rules}
+use Rattle.std.proofs.Common.{◌++◌, [], map, rules}
 use Rattle.std.proofs.lemmas.Result.{IfOk-weaker}
-use Rattle.std.specs.List.{All}
-use Rattle.rvd_ask.specs.Wake.{candidate_of, item}
-use Rattle.rvd_wake.specs.Walks.{AreJust, Orders}
+use Rattle.rvd_ask.specs.Wake.{item}
+use Rattle.rvd_wake.specs.Walks.{Orders}
 use Rattle.rvd_wake.proofs.Listed.{listed}
 use Rattle.rvd_wake.proofs.candidate.candidates.Goals as goal
 
