@@ -9,3 +9,6 @@ mod Between
 mod BodyPlaces
 mod DataPlaces
 mod AllItems
+mod Leading
+mod Beyond
+mod Together
