@@ -2,6 +2,7 @@
 use Rattle.std.proofs.Common.{◌≡◌, ℕ, ◌<◌, ◌^◌, Bool, false, ◌&&◌, ◌||◌, List, [], ◌++◌, map, refl, ◌∙◌}
 use Rattle.std.specs.Prelude.{nat_lt}
 use Rattle.std.specs.List.{All}
+use Rattle.std.proofs.Math.Bool.{or-false}
 use Rattle.std.proofs.lemmas.List.Folds.{list_any-append}
 use Rattle.rvd_fact.specs.declared.cells.Change.{Change}
 use Rattle.rvd_fact.specs.Program.{Program}
@@ -12,7 +13,6 @@ use Rattle.rvd_ask.specs.Order.{same_item}
 use Rattle.rvd_ask.specs.Unsettled.{has_item, woken, ListingLaw, ListsJust}
 use Rattle.rvd_ask.specs.Wake.{item, wakes, wakes_of}
 use Rattle.rvd_wake.specs.Walks.{Orders, has_place, is_at}
-use Rattle.rvd_wake.proofs.Bools.{or_false}
 use Rattle.rvd_wake.proofs.Members.{has_item-at, within}
 
 -- where the items of an analyzer are: at some places, which are addresses, just where a test says
@@ -52,10 +52,10 @@ own_places flow refs funcs bodies strings Strings = strings
 
 own : (flow refs funcs bodies strings : List ℕ) (a : Analyzer) (x : ℕ) → any_at flow refs funcs bodies strings (item a x) ≡ has_place x (own_places flow refs funcs bodies strings a)
 unfolding own_places
-own flow refs funcs bodies strings Flow x = or_false _ ∙ or_false _ ∙ or_false _ ∙ or_false _
-own flow refs funcs bodies strings Refs x = or_false _ ∙ or_false _ ∙ or_false _
-own flow refs funcs bodies strings Funcs x = or_false _ ∙ or_false _
-own flow refs funcs bodies strings Body x = or_false _
+own flow refs funcs bodies strings Flow x = or-false _ ∙ or-false _ ∙ or-false _ ∙ or-false _
+own flow refs funcs bodies strings Refs x = or-false _ ∙ or-false _ ∙ or-false _
+own flow refs funcs bodies strings Funcs x = or-false _ ∙ or-false _
+own flow refs funcs bodies strings Body x = or-false _
 own flow refs funcs bodies strings Strings x = refl
 
 own_placed : (n : ℕ) (test : Analyzer → ℕ → Bool) (flow refs funcs bodies strings : List ℕ) → AllPlaced n test flow refs funcs bodies strings → (a : Analyzer) → Placed n test a (own_places flow refs funcs bodies strings a)

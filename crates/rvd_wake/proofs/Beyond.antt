@@ -17,26 +17,14 @@ use Rattle.rvd_fact.proofs.Scans.{found, Found}
 use Rattle.rvd_ask.specs.declared.asks.Analyzer.{Analyzer}
 use Rattle.rvd_ask.specs.declared.asks.Analyzer.TheVariants.{Flow, Refs, Funcs, Body, Strings}
 use Rattle.rvd_ask.specs.Wake.{candidate_of}
-
--- what a suiting cell owes
-key_below : (k : Key) (c : Cell) → suits k c ≡ true → k.at < 4294967296
-key_below k c h =
-    let rest = and_parts (is_of k.kind c.value) (is_address k.at && (nat_le k.sub (top_sub k.kind) && (is_whole k.at c.value && may_stand c.source c.value))) h in
-    ltb-true k.at 4294967296 (and_parts (is_address k.at) (nat_le k.sub (top_sub k.kind) && (is_whole k.at c.value && may_stand c.source c.value)) rest.1).0
-
-value_whole : (k : Key) (c : Cell) → suits k c ≡ true → is_whole k.at c.value ≡ true
-value_whole k c h =
-    let a = and_parts (is_of k.kind c.value) (is_address k.at && (nat_le k.sub (top_sub k.kind) && (is_whole k.at c.value && may_stand c.source c.value))) h in
-    let b = and_parts (is_address k.at) (nat_le k.sub (top_sub k.kind) && (is_whole k.at c.value && may_stand c.source c.value)) a.1 in
-    let d = and_parts (nat_le k.sub (top_sub k.kind)) (is_whole k.at c.value && may_stand c.source c.value) b.1 in
-    (and_parts (is_whole k.at c.value) (may_stand c.source c.value) d.1).0
+use Rattle.rvd_wake.proofs.Suiting.{address_there, whole_there}
 
 absent : (S : Program) (k : Kind) (a : ℕ) → IsValid S → 4294967296 ≤ a → is_present (cell_at S (key_of k a)) ≡ false
 absent S k a valid above = none (cell_at S (key_of k a)) refl
   where
     none : (o : Option Cell) → cell_at S (key_of k a) ≡ o → is_present o ≡ false
     none None e = refl
-    none (Some c) e = let below : a < 4294967296 = key_below (key_of k a) c (valid.cells (key_of k a) c e) in absurd (omega arith)
+    none (Some c) e = let below : a < 4294967296 = address_there (key_of k a) c (valid.cells (key_of k a) c e) in absurd (omega arith)
 
 target_below : (at t : ℕ) (class : RefClass) (v : Value) → refers t class v ≡ true → is_whole at v ≡ true → t < 4294967296
 target_below at t class (Ref to own) h whole = subst (λ (x : ℕ). x < 4294967296) (eqb-true to t (and_parts (to == t) (class_rank own == class_rank class) h).0) (ltb-true to 4294967296 whole)
@@ -45,7 +33,7 @@ target_below at t class v h whole = absurd (false≢true h)
 no_ref : (S : Program) (t : ℕ) (class : RefClass) → IsValid S → 4294967296 ≤ t → has_ref_to S t class ≡ false
 no_ref S t class valid above = false_from_ne_true (has_ref_to S t class) (λ h.
     let f : Found (λ (e : Key × Cell). refers t class e.1.value) S = found (λ (e : Key × Cell). refers t class e.1.value) S valid.in_order h in
-    let below : t < 4294967296 = target_below f.key.at t class f.cell.value f.passes (value_whole f.key f.cell (valid.cells f.key f.cell f.here)) in
+    let below : t < 4294967296 = target_below f.key.at t class f.cell.value f.passes (whole_there f.key f.cell (valid.cells f.key f.cell f.here)) in
     omega arith)
 
 pub beyond : (S : Program) (a : Analyzer) (at : ℕ) → IsValid S → 4294967296 ≤ at → candidate_of a S at ≡ false

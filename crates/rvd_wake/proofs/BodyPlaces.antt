@@ -5,6 +5,7 @@ use Rattle.std.specs.Prelude.{◌==◌, filter_map, Option, Some, None}
 use Rattle.std.specs.List.{list_any}
 use Rattle.std.specs.Option.{option_map_or}
 use Rattle.std.specs.Ordering.{eq_by_cmp, nat_cmp}
+use Rattle.std.proofs.Math.Bool.{and_assoc, and_comm, or-false, or_assoc, or_comm}
 use Rattle.std.proofs.lemmas.Bool.{eqb-true, false≢true, or_cases, or_left, or_right}
 use Rattle.std.proofs.lemmas.Bool.Decides.{nat_tests}
 use Rattle.std.proofs.lemmas.List.Folds.{list_any-append}
@@ -21,7 +22,7 @@ use Rattle.rvd_ask.specs.Places.{body_key, word_before}
 use Rattle.rvd_ask.specs.Wake.{body_has, body_has_from, body_with, cell_body_with, goes_to, is_near}
 use Rattle.rvd_wake.specs.Walks.{has_place}
 use Rattle.rvd_wake.specs.Picks.{at_if, body_meets, body_place, from_of, is_body}
-use Rattle.rvd_wake.proofs.Bools.{agree, any-filter_map, any_any, any_as, any_none, or_false}
+use Rattle.rvd_wake.proofs.Bools.{agree, any-filter_map, any_any, any_as, any_none}
 use Rattle.rvd_wake.proofs.FlowPlaces.{has_place-push}
 use Rattle.rvd_wake.proofs.FromPlaces.{at_if_is}
 use Rattle.rvd_wake.proofs.Picks.{at_key, cell_passes, stands, IsTold}
@@ -67,12 +68,7 @@ cell_meets addresses None = sym (any_none addresses)
 cell_meets addresses (Some c) = value_meets addresses c.value
 
 and_turned : (a b c : Bool) → (a && (b && c)) ≡ (b && (c && a))
-and_turned true true true = refl
-and_turned true true false = refl
-and_turned true false c = refl
-and_turned false true true = refl
-and_turned false true false = refl
-and_turned false false c = refl
+and_turned a b c = and_comm a (b && c) ∙ and_assoc b c a
 
 pub bodies_are : (S : Program) (addresses list : List ℕ) (e : ℕ) → IsValid S → ((q : ℕ) → list_any (eq_by_cmp nat_cmp q) addresses ≡ list_any (eq_by_cmp nat_cmp q) list) → has_place e (filter_map (λ (x : Key × Cell). body_place addresses x.0 x.1.value) S) ≡ list_any (body_has S e) list
 bodies_are S addresses list e valid same =
@@ -91,23 +87,10 @@ from_has : (S : Program) (z e : ℕ) → list_any (body_has S e) (filter_map (λ
 from_has S z e = any-filter_map (body_has S e) (λ (x : Key × Cell). from_of z x.0 x.1.value) S ∙ any_as _ (λ (x : Key × Cell). goes_to z x.1.value && body_has S e x.0.at) (λ x. picked_passes (body_has S e) (goes_to z x.1.value) x.0) S
 
 any-push : (f : ℕ → Bool) (xs : List ℕ) (y : ℕ) → list_any f (xs ++ y ∷ []) ≡ (list_any f xs || f y)
-any-push f xs y = list_any-append f xs (y ∷ []) ∙ ap (λ b. list_any f xs || b) (or_false (f y))
+any-push f xs y = list_any-append f xs (y ∷ []) ∙ ap (λ b. list_any f xs || b) (or-false (f y))
 
 or_four : (n a b f : Bool) → (((f || a) || b) || n) ≡ (n || (a || (b || f)))
-or_four true a b f = or_true ((f || a) || b)
-  where
-    or_true : (c : Bool) → (c || true) ≡ true
-    or_true true = refl
-    or_true false = refl
-or_four false a b f = or_false ((f || a) || b) ∙ or_three a b f
-  where
-    or_three : (a b f : Bool) → ((f || a) || b) ≡ (a || (b || f))
-    or_three true b true = refl
-    or_three true b false = refl
-    or_three false true true = refl
-    or_three false true false = refl
-    or_three false false true = refl
-    or_three false false false = refl
+or_four n a b f = or_comm ((f || a) || b) n ∙ ap (λ x. n || x) (or_assoc f a b ∙ or_comm f (a || b) ∙ or_assoc a b f)
 
 pub near_places : (S : Program) (z e : ℕ) (froms some ways places all : List ℕ) → froms ≡ filter_map (λ (x : Key × Cell). from_of z x.0 x.1.value) S → some ≡ froms ++ z ∷ [] → ways ≡ some ++ word_before z ∷ [] → has_place e places ≡ list_any (body_has S e) ways → all ≡ places ++ z ∷ [] → has_place e all ≡ is_near S z e
 near_places S z e froms some ways places all picked with_z with_word having pushed =

@@ -1,6 +1,7 @@
 -- Tests that agree: `agree` from both ways, `any_as` and `any_or` for whether some element passes, and `all_same` for numbers
 -- in either order.
 use Rattle.std.proofs.Common.{◌≡◌, ℕ, Bool, true, false, ◌&&◌, ◌||◌, List, [], ◌∷◌, map, refl, sym, ap, ◌∙◌, inl, inr, arith}
+use Rattle.std.proofs.Math.Bool.{and-false, and-or_distrib_left, or_assoc, or_comm}
 use Rattle.std.proofs.lemmas.Bool.{false≢true, or_cases}
 use Rattle.std.proofs.lemmas.Bool.Decides.{nat_tests}
 use Rattle.std.specs.Prelude.{Option, Some, None, filter_map, ◌==◌}
@@ -14,18 +15,6 @@ agree true false there back = absurd (false≢true (there refl))
 agree false true there back = absurd (false≢true (back refl))
 agree false false there back = refl
 
-pub and_true : (b : Bool) → (b && true) ≡ b
-and_true true = refl
-and_true false = refl
-
-pub and_false : (b : Bool) → (b && false) ≡ false
-and_false true = refl
-and_false false = refl
-
-pub or_false : (b : Bool) → (b || false) ≡ b
-or_false true = refl
-or_false false = refl
-
 pub same_number : (x y : ℕ) → (x == y) ≡ (y == x)
 same_number x y = grind (arith, nat_tests)
 
@@ -35,10 +24,7 @@ any_as p q same [] = refl
 any_as p q same (x ∷ xs) = λ i. same x i || any_as p q same xs i
 
 or_swap : (a b c d : Bool) → ((a || b) || (c || d)) ≡ ((a || c) || (b || d))
-or_swap true b c d = refl
-or_swap false true true d = refl
-or_swap false true false d = refl
-or_swap false false c d = refl
+or_swap a b c d = or_assoc a b (c || d) ∙ ap (λ x. a || x) (sym (or_assoc b c d) ∙ ap (λ x. x || d) (or_comm b c) ∙ or_assoc c b d) ∙ sym (or_assoc a c (b || d))
 
 pub any_or : {X : Type 0} (p q : X → Bool) (xs : List X) → list_any (λ x. p x || q x) xs ≡ (list_any p xs || list_any q xs)
 any_or p q [] = refl
@@ -75,9 +61,5 @@ any_any p (x ∷ xs) ys = ap (λ b. list_any (p x) ys || b) (any_any p xs ys) �
 
 -- a part that is the same for all elements
 pub any_and : {X : Type 0} (b : Bool) (p : X → Bool) (xs : List X) → list_any (λ x. b && p x) xs ≡ (b && list_any p xs)
-any_and b p [] = sym (and_false b)
-any_and b p (x ∷ xs) = ap (λ c. (b && p x) || c) (any_and b p xs) ∙ factored b (p x) (list_any p xs)
-  where
-    factored : (s c d : Bool) → ((s && c) || (s && d)) ≡ (s && (c || d))
-    factored true c d = refl
-    factored false c d = refl
+any_and b p [] = sym (and-false b)
+any_and b p (x ∷ xs) = ap (λ c. (b && p x) || c) (any_and b p xs) ∙ sym (and-or_distrib_left b (p x) (list_any p xs))

@@ -3,6 +3,7 @@
 use Rattle.std.proofs.Common.{◌≡◌, ℕ, Bool, true, false, ◌&&◌, ◌||◌, List, [], ◌∷◌, ◌++◌, refl, sym, ap, ◌∙◌}
 use Rattle.std.specs.Prelude.{◌==◌, filter_map, is_none, is_some, Option, Some, None}
 use Rattle.std.specs.List.{list_any}
+use Rattle.std.proofs.Math.Bool.{and-or_distrib_left, or-false, or_assoc, or_comm}
 use Rattle.std.proofs.lemmas.Bool.{eq-eqb, true≢false}
 use Rattle.std.proofs.lemmas.List.Folds.{list_any-append}
 use Rattle.rvd_fact.specs.declared.keys.Key.{Key}
@@ -12,35 +13,21 @@ use Rattle.rvd_ask.specs.Places.{word_before}
 use Rattle.rvd_ask.specs.Wake.{around, comes_near, comes_to, is_from, meets}
 use Rattle.rvd_wake.specs.Walks.{has_place}
 use Rattle.rvd_wake.specs.Picks.{from_near, from_of}
-use Rattle.rvd_wake.proofs.Bools.{any_as, any_or, or_false, same_number}
+use Rattle.rvd_wake.proofs.Bools.{any_as, any_or, same_number}
 use Rattle.rvd_wake.proofs.FromPlaces.{froms_are, near_are}
 
 or_turned : (a b c : Bool) → (c || (a || b)) ≡ (a || (b || c))
-or_turned true b true = refl
-or_turned true b false = refl
-or_turned false true true = refl
-or_turned false true false = refl
-or_turned false false true = refl
-or_turned false false false = refl
+or_turned a b c = or_comm c (a || b) ∙ or_assoc a b c
 
 or_reversed : (a b c : Bool) → ((c || b) || a) ≡ (a || (b || c))
-or_reversed true true true = refl
-or_reversed true true false = refl
-or_reversed true false true = refl
-or_reversed true false false = refl
-or_reversed false true true = refl
-or_reversed false true false = refl
-or_reversed false false true = refl
-or_reversed false false false = refl
+or_reversed a b c = or_comm (c || b) a ∙ ap (λ x. a || x) (or_comm c b)
 
 parted : (m a b c : Bool) → (m && (a || (b || c))) ≡ ((m && (a || b)) || (m && c))
-parted false a b c = refl
-parted true true b c = refl
-parted true false b c = refl
+parted m a b c = ap (λ x. m && x) (sym (or_assoc a b c)) ∙ and-or_distrib_left m (a || b) c
 
 -- one more place
 pub has_place-push : (x z : ℕ) (places : List ℕ) → has_place x (places ++ z ∷ []) ≡ (has_place x places || x == z)
-has_place-push x z places = list_any-append (λ p. p == x) places (z ∷ []) ∙ ap (λ b. has_place x places || b) (or_false (z == x) ∙ same_number z x)
+has_place-push x z places = list_any-append (λ p. p == x) places (z ∷ []) ∙ ap (λ b. has_place x places || b) (or-false (z == x) ∙ same_number z x)
 
 -- the words that meet n bytes, those before them, and what goes to them
 near_parts : (S : Program) (z n x : ℕ) → comes_near S z n x ≡ (list_any (λ t. meets z n t && (x == t || x == word_before t)) (around z n) || list_any (λ t. meets z n t && is_from S t x) (around z n))

@@ -1,4 +1,5 @@
 mod Bools
+mod Suiting
 mod Members
 mod Picks
 mod Listed

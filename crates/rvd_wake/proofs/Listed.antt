@@ -1,7 +1,8 @@
 -- The list of an analyzer's items at the addresses that pass a test. Use `listed` for candidates.
-use Rattle.std.proofs.Common.{◌≡◌, ℕ, ◌<◌, ◌^◌, Bool, true, false, ◌&&◌, List, [], ◌++◌, map, refl, ap, ◌∙◌}
+use Rattle.std.proofs.Common.{◌≡◌, ℕ, ◌<◌, ◌^◌, Bool, true, false, ◌&&◌, List, [], ◌++◌, map, refl, sym, ap, ◌∙◌}
 use Rattle.std.specs.Prelude.{nat_lt}
 use Rattle.std.specs.List.{All}
+use Rattle.std.proofs.Math.Bool.{and_assoc, and_comm}
 use Rattle.std.proofs.lemmas.Bool.{eqb-true}
 use Rattle.rvd_fact.specs.Program.{Program}
 use Rattle.rvd_ask.specs.declared.asks.Analyzer.{Analyzer}
@@ -14,9 +15,7 @@ use Rattle.rvd_wake.specs.Walks.{AreJust, Orders, has_place}
 use Rattle.rvd_wake.proofs.Members.{has_item-at, within}
 
 swapped : (s b t : Bool) → (s && (b && t)) ≡ (b && (s && t))
-swapped true b t = refl
-swapped false true t = refl
-swapped false false t = refl
+swapped s b t = sym (and_assoc s b t) ∙ ap (λ x. x && t) (and_comm s b) ∙ and_assoc b s t
 
 -- of two analyzers that are one a test says the same
 at_same : (a b : Analyzer) (test : Analyzer → Bool) → (same_analyzer a b && test a) ≡ (same_analyzer a b && test b)

@@ -9,6 +9,7 @@ use Rattle.std.specs.declared.cmp.Ordering.TheVariants.{Less, Equal, Greater}
 use Rattle.std.specs.Ordering.{is_lt, is_eq, nat_cmp, ordering_then}
 use Rattle.std.specs.List.Sorted.{IsStrictlySortedBy}
 use Rattle.std.specs.BTreeSet.{BTreeSet, IsFromIterResult}
+use Rattle.std.proofs.Math.Bool.{and-false, and-or_distrib_left}
 use Rattle.std.proofs.lemmas.Bool.{and_from, or_cases, eqb-true, false_from_ne_true, lt-ltb, le-ltb, cases_lt}
 use Rattle.std.proofs.lemmas.Bool.Decides.{nat_tests}
 use Rattle.rvd_ask.specs.declared.asks.Analyzer.{Analyzer}
@@ -19,7 +20,6 @@ use Rattle.rvd_ask.specs.Unsettled.{are_in_order, comes_before, has_item, same_a
 use Rattle.rvd_ask.specs.Wake.{item}
 use Rattle.rvd_ask.proofs.ItemOrder.{derived_is}
 use Rattle.rvd_wake.specs.Walks.{Orders, has_place, is_at}
-use Rattle.rvd_wake.proofs.Bools.{and_false}
 
 all_before : (i : Item) (items : List Item) → AllByRecursion (λ j. item_cmp i j ≡ Less) items → list_all (comes_before i) items ≡ true
 all_before i [] h = refl
@@ -51,13 +51,9 @@ is_eq-nat_cmp x y = grind (arith, nat_tests)
 same_is : (i : Item) (a : Analyzer) (p : ℕ) → same_item i (item a p) ≡ (same_analyzer a i.analyzer && p == i.at)
 same_is i a p = then_is (nat_cmp (priority i.analyzer) (priority a)) (nat_cmp i.at p) ∙ (λ k. is_eq-nat_cmp (priority i.analyzer) (priority a) k && is_eq-nat_cmp i.at p k)
 
-factored : (s p q : Bool) → ((s && p) || (s && q)) ≡ (s && (p || q))
-factored true p q = refl
-factored false p q = refl
-
 pub has_item-at : (a : Analyzer) (places : List ℕ) (i : Item) → has_item i (map (item a) places) ≡ is_at a places i
-has_item-at a [] i = sym (and_false (same_analyzer a i.analyzer))
-has_item-at a (p ∷ places) i = (λ k. same_is i a p k || has_item-at a places i k) ∙ factored (same_analyzer a i.analyzer) (p == i.at) (has_place i.at places)
+has_item-at a [] i = sym (and-false (same_analyzer a i.analyzer))
+has_item-at a (p ∷ places) i = (λ k. same_is i a p k || has_item-at a places i k) ∙ sym (and-or_distrib_left (same_analyzer a i.analyzer) (p == i.at) (has_place i.at places))
 
 -- a place is an address
 is_below : (n a : ℕ) (places : List ℕ) → All (λ p. p < n) places → has_place a places ≡ true → a < n

@@ -4,6 +4,7 @@ use Rattle.std.proofs.Common.{◌≡◌, ℕ, ◌≤◌, Bool, true, false, ◌&
 use Rattle.std.specs.Prelude.{◌==◌, nat_le, filter_map}
 use Rattle.std.specs.List.{list_any}
 use Rattle.std.specs.Option.{option_map_or}
+use Rattle.std.proofs.Math.Bool.{and-false, and-or_distrib_right, and-true, or-false}
 use Rattle.std.proofs.lemmas.Bool.{and_from, and_parts, eqb-true, eq-eqb, false≢true, leb-true}
 use Rattle.rvd_fact.specs.declared.keys.Kind.{Kind}
 use Rattle.rvd_fact.specs.declared.keys.Kind.TheVariants as kind
@@ -21,7 +22,8 @@ use Rattle.rvd_ask.specs.declared.asks.Analyzer.TheVariants.{Flow, Refs, Funcs, 
 use Rattle.rvd_ask.specs.Wake.{candidate_of}
 use Rattle.rvd_wake.specs.Walks.{AreJust}
 use Rattle.rvd_wake.specs.Picks.{called, candidate_place, data_at, is_func, is_unit, starts_flow}
-use Rattle.rvd_wake.proofs.Bools.{agree, and_false, and_true, any-filter_map, any_as, any_or, or_false}
+use Rattle.rvd_wake.proofs.Bools.{agree, any-filter_map, any_as, any_or}
+use Rattle.rvd_wake.proofs.Suiting.{sub_there}
 
 -- whether a cell is there and its value passes
 abbrev pub cell_passes : (Value → Bool) → Option Cell → Bool
@@ -38,19 +40,13 @@ pub record IsTold (of_kind : Kind → Bool) (k : Kind) : Type 0 where
   pub only : (j : Kind) → of_kind j ≡ true → j ≡ k
   pub single : top_sub k ≡ 0
 
-sub_bound : (k : Key) (c : Cell) → suits k c ≡ true → k.sub ≤ top_sub k.kind
-sub_bound k c h =
-    let rest = (and_parts (is_of k.kind c.value) (is_address k.at && (nat_le k.sub (top_sub k.kind) && (is_whole k.at c.value && may_stand c.source c.value))) h).1 in
-    let more = (and_parts (is_address k.at) (nat_le k.sub (top_sub k.kind) && (is_whole k.at c.value && may_stand c.source c.value)) rest).1 in
-    leb-true k.sub (top_sub k.kind) (and_parts (nat_le k.sub (top_sub k.kind)) (is_whole k.at c.value && may_stand c.source c.value) more).0
-
 key_is : (S : Program) (of_kind : Kind → Bool) (k : Kind) (q : Value → Bool) (a : ℕ) → IsValid S → IsTold of_kind k → (f : Found (stands of_kind q a) S) → (f.key ≡ key_of k a) × (q f.cell.value ≡ true)
 key_is S of_kind k q a valid told f =
     let parts = and_parts (of_kind f.key.kind) (q f.cell.value && f.key.at == a) f.passes in
     let rest = and_parts (q f.cell.value) (f.key.at == a) parts.1 in
     let same_kind : f.key.kind ≡ k = told.only f.key.kind parts.0 in
     let same_at : f.key.at ≡ a = eqb-true f.key.at a rest.1 in
-    let bound : f.key.sub ≤ top_sub f.key.kind = sub_bound f.key f.cell (valid.cells f.key f.cell f.here) in
+    let bound : f.key.sub ≤ top_sub f.key.kind = sub_there f.key f.cell (valid.cells f.key f.cell f.here) in
     let top : top_sub f.key.kind ≡ 0 = ap top_sub same_kind ∙ told.single in
     let same_sub : f.key.sub ≡ 0 = omega arith in
     ((λ i. record { at = same_at i; kind = same_kind i; sub = same_sub i }), rest.0)
@@ -120,18 +116,17 @@ starts_is kind.Unit = refl
 starts_is k = refl
 
 spread : (m f u r : Bool) → ((m || (f || u)) && r) ≡ ((m && r) || ((f && r) || (u && r)))
-spread m f u true = (λ i. and_true (m || (f || u)) i) ∙ sym (λ i. and_true m i || (and_true f i || and_true u i))
-spread m f u false = and_false (m || (f || u)) ∙ sym (λ i. and_false m i || (and_false f i || and_false u i))
+spread m f u r = and-or_distrib_right m (f || u) r ∙ ap (λ b. (m && r) || b) (and-or_distrib_right f u r)
 
 called_is : (a : ℕ) (v : Value) → option_map_or (λ p. p == a) (called v) false ≡ refers a Call v
-called_is a (Ref to Call) = sym (and_true (to == a))
-called_is a (Ref to class) = sym (and_false (to == a))
+called_is a (Ref to Call) = sym (and-true (to == a))
+called_is a (Ref to class) = sym (and-false (to == a))
 called_is a v = refl
 
 pub data_is : (a : ℕ) (v : Value) → option_map_or (λ p. p == a) (data_at v) false ≡ (refers a Datum v || refers a Read v)
-data_is a (Ref to Datum) = sym ((λ i. and_true (to == a) i || and_false (to == a) i) ∙ or_false (to == a))
-data_is a (Ref to Read) = sym (λ i. and_false (to == a) i || and_true (to == a) i)
-data_is a (Ref to class) = sym (λ i. and_false (to == a) i || and_false (to == a) i)
+data_is a (Ref to Datum) = sym ((λ i. and-true (to == a) i || and-false (to == a) i) ∙ or-false (to == a))
+data_is a (Ref to Read) = sym (λ i. and-false (to == a) i || and-true (to == a) i)
+data_is a (Ref to class) = sym (λ i. and-false (to == a) i || and-false (to == a) i)
 data_is a v = refl
 
 -- the places of an analyzer's candidates

@@ -19,6 +19,8 @@ mod places;
 mod refs;
 mod targets;
 mod waking;
+#[cfg(test)]
+mod tests;
 
 pub use candidate::candidates;
 pub use std::alloc::AllocError as OutOfMemory;
