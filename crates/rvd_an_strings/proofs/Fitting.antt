@@ -1,12 +1,11 @@
 -- The string that the rule adds fits the valid program that it is found on: `strings_fitting`.
-use Rattle.std.proofs.Common.{◌≡◌, ℕ, ◌+◌, ◌<◌, ◌≤◌, true, false, cond, ◌&&◌, [], ◌∷◌, length, Option, Some, None, refl, sym, ap, ◌∙◌, subst, inl, inr, ◌⊎◌, arith}
+use Rattle.std.proofs.Common.{◌≡◌, ℕ, ◌+◌, ◌<◌, ◌≤◌, true, ◌&&◌, [], ◌∷◌, length, Option, Some, None, refl, sym, ap, subst, inl, inr, ◌⊎◌, arith}
 use Rattle.std.specs.Prelude.{is_none, nat_le}
 use Rattle.std.proofs.lemmas.Bool.{and_from, and_parts, cases_Bool, cases_lt, cond_both, false≢true, le-leb, lt-ltb}
 use Rattle.rvd_fact.specs.declared.cells.Cell.{Cell}
 use Rattle.rvd_fact.specs.declared.values.Form.TheVariants.{Str}
 use Rattle.rvd_fact.specs.declared.values.Source.{Source}
 use Rattle.rvd_fact.specs.declared.values.Source.TheVariants.{Analysis}
-use Rattle.rvd_fact.specs.declared.values.Value.{Value}
 use Rattle.rvd_fact.specs.declared.values.Value.TheVariants.{Code, Plain}
 use Rattle.rvd_fact.specs.Program.{Program, cell_at}
 use Rattle.rvd_fact.specs.Memory.{unit_key, unit_len}
@@ -16,7 +15,7 @@ use Rattle.rvd_ask.specs.Fitting.{FittingLaw}
 use Rattle.rvd_ask.specs.Flow.{is_free}
 use Rattle.rvd_ask.specs.Places.{addition}
 use Rattle.rvd_ask.specs.Rules.{rule}
-use Rattle.rvd_ask.specs.Strings.{is_read_at, string_changes, string_len, strings_rule, tail}
+use Rattle.rvd_ask.specs.Strings.{is_read_at, string_changes, string_len, tail}
 use Rattle.rvd_an_strings.proofs.NewUnits.{valid_unit}
 use Rattle.rvd_an_strings.proofs.Rooms.{Within, within}
 use Rattle.rvd_an_strings.proofs.Strings.{Bounded, string_low}

@@ -1,4 +1,5 @@
 mod Rows
+pub mod Sample
 pub mod Rooms
 pub mod TextBytes
 pub mod Strings

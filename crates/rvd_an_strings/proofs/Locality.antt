@@ -1,6 +1,6 @@
 -- Programs that answer alike to what the rule of strings asks on one of them have the same change by it: `local`.
-use Rattle.std.proofs.Common.{◌≡◌, ℕ, suc, ◌+◌, ◌-◌, ◌<◌, Bool, true, false, cond, not, ◌&&◌, ◌||◌, List, [], ◌∷◌, ◌++◌, length, get_or, take, Option, Some, None, refl, sym, ap, ◌∙◌, subst, inl, inr, arith}
-use Rattle.std.specs.Prelude.{is_none, min, nat_le, ◌==◌}
+use Rattle.std.proofs.Common.{◌≡◌, ℕ, suc, ◌+◌, ◌<◌, Bool, true, false, cond, not, ◌||◌, List, [], ◌∷◌, length, get_or, take, Option, Some, None, refl, sym, ap, ◌∙◌, subst, inl, inr, arith}
+use Rattle.std.specs.Prelude.{is_none, nat_le, ◌==◌}
 use Rattle.std.specs.Option.{option_map}
 use Rattle.std.proofs.lemmas.Bool.{cases_Bool, leb-false}
 use Rattle.std.proofs.lemmas.List.{get_or-take, length-take}
@@ -13,7 +13,6 @@ use Rattle.rvd_fact.specs.Program.{Program, cell_at}
 use Rattle.rvd_fact.specs.Memory.{block, block_key, bytes, has_ref_to, unit_key}
 use Rattle.rvd_fact.specs.Valid.{IsValid}
 use Rattle.rvd_ask.specs.declared.asks.Analyzer.TheVariants.{Strings}
-use Rattle.rvd_ask.specs.declared.asks.Ask.{Ask}
 use Rattle.rvd_ask.specs.declared.asks.Ask.TheVariants as ask
 use Rattle.rvd_ask.specs.Answers.{Hold, only_if, plain_cell, plain_value, told}
 use Rattle.rvd_ask.specs.Flow.{block_asks, free_asks, is_free}

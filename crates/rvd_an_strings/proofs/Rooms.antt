@@ -16,7 +16,7 @@ use Rattle.rvd_fact.specs.declared.values.Perm.{Perm}
 use Rattle.rvd_fact.specs.declared.values.Source.{Source}
 use Rattle.rvd_fact.specs.declared.values.Value.{Value}
 use Rattle.rvd_fact.specs.declared.values.Value.TheVariants.{Block, Mark, Func, Body, Symbol, Comment, Bookmark, Code, Plain, Ref, Gone}
-use Rattle.rvd_fact.specs.Order.{key_cmp, same_key, rank}
+use Rattle.rvd_fact.specs.Order.{key_cmp, rank}
 use Rattle.rvd_fact.specs.Program.{Program, cell_at, IsInOrder}
 use Rattle.rvd_fact.specs.Memory.{block, block_key, block_len, bytes, bytes_in, surrounds}
 use Rattle.rvd_fact.specs.Valid.{IsValid, are_bytes, block_span, has_bytes, is_address, is_of, is_whole, may_stand, span, suits, top_sub}

@@ -1,11 +1,11 @@
 -- How long a string is. Use `string_is` for its length by that of its text, and `string_low` for its bounds.
-use Rattle.std.proofs.Common.{◌≡◌, ℕ, ◌+◌, ◌<◌, ◌≤◌, cond, length, take, Option, Some, None, refl, sym, ap, ◌∙◌, subst, arith}
+use Rattle.std.proofs.Common.{◌≡◌, ℕ, ◌+◌, ◌<◌, ◌≤◌, cond, length, take, Option, Some, None, refl, sym, subst, arith}
 use Rattle.std.specs.Prelude.{nat_le}
-use Rattle.std.proofs.lemmas.Bool.{cond_both, leb-true, lt-leb}
+use Rattle.std.proofs.lemmas.Bool.{cond_both, leb-true}
 use Rattle.std.proofs.lemmas.List.{length-take}
 use Rattle.rvd_fact.specs.Program.{Program}
 use Rattle.rvd_ask.specs.Strings.{string_len, tail, text_len}
-use Rattle.rvd_an_strings.proofs.TextBytes.{Shorter, before-shorter, text_before, text_len-before}
+use Rattle.rvd_an_strings.proofs.TextBytes.{Shorter, before-shorter, text_len-before}
 
 -- the length of a string with its zero, by that of its text
 abbrev pub with_zero : Option ℕ → Option ℕ

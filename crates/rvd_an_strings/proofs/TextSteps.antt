@@ -1,6 +1,6 @@
 -- The loop that asks for the bytes of a text one by one, at the byte t + d. Use `low_byte` and `place` for the byte, and the
 -- others for the loop's goals.
-use Rattle.std.proofs.Common.{◌≡◌, ℕ, ◌+◌, ◌<◌, ◌≤◌, true, false, List, [], ◌∷◌, ◌++◌, length, get_or, take, drop, Bool, Option, Some, None, refl, sym, ap, ◌∙◌, arith}
+use Rattle.std.proofs.Common.{◌≡◌, ℕ, ◌+◌, ◌<◌, ◌≤◌, true, false, List, [], ◌∷◌, ◌++◌, length, get_or, take, drop, Bool, Option, Some, None, sym, ap, ◌∙◌, arith}
 use Rattle.std.specs.Prelude.{min, ◌==◌, nat_eq}
 use Rattle.std.specs.Option.{option_eq, option_map, option_map_or}
 use Rattle.std.proofs.lemmas.Bool.{eqb-true}

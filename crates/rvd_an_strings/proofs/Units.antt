@@ -1,7 +1,7 @@
 -- Units of a valid program: the values that stand for them, the bytes that they have, and bytes that none has. Use `unit_rank`,
 -- `stands` and `unit_same` for values, and `free_at`, `unfree`, `uncovered` and `any_covers` for bytes.
 use Rattle.std.proofs.Common.{◌≡◌, ℕ, zero, suc, ◌+◌, ◌<◌, ◌≤◌, Bool, true, false, cond, ◌&&◌, ◌||◌, [], ◌∷◌, Option, Some, None, refl, sym, ap, ◌∙◌, inl, inr, arith}
-use Rattle.std.specs.Prelude.{find as first_where, is_none, nat_lt, nat_le}
+use Rattle.std.specs.Prelude.{find as first_where, is_none, nat_le}
 use Rattle.std.specs.List.{list_any}
 use Rattle.std.specs.Option.{option_map}
 use Rattle.std.proofs.lemmas.Bool.{and_from, and_parts, both_ways, cases_Bool, cases_eq, eqb-true, false≢true, le-leb, leb-true, lt-ltb, true≢false}

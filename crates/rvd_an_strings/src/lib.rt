@@ -11,6 +11,8 @@
 
 mod laws;
 mod rule;
+#[cfg(test)]
+mod tests;
 mod texts;
 
 pub use laws::{strings_fit, wake_law};
