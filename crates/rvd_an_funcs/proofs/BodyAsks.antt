@@ -1,6 +1,6 @@
 -- What the rule of bodies asks, at each of its ends. Use `asks_none` where no function begins, `asks_kept` where an analyzer may
 -- not set the body, and `asks_walked` where the walk was made.
-use Rattle.std.proofs.Common.{◌≡◌, ℕ, Bool, true, false, List, [], ◌∷◌, ◌++◌, refl, sym, ap, ◌∙◌, subst, inl, inr}
+use Rattle.std.proofs.Common.{◌≡◌, ℕ, true, false, List, [], ◌∷◌, ◌++◌, refl, sym, ap, ◌∙◌, subst, inl, inr}
 use Rattle.std.specs.Prelude.{Contains}
 use Rattle.rvd_fact.specs.declared.keys.Key.{Key}
 use Rattle.rvd_fact.specs.Program.{Program, cell_at, is_present}

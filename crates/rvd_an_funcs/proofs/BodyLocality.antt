@@ -5,14 +5,13 @@ use Rattle.std.proofs.Common.{◌≡◌, ℕ, zero, suc, Bool, true, false, cond
 use Rattle.std.specs.Prelude.{Contains, filter_map}
 use Rattle.std.proofs.lemmas.Bool.{and_from, and_parts, false≢true}
 use Rattle.rvd_decode.specs.Flow.{falls_through}
-use Rattle.rvd_fact.specs.declared.keys.Key.{Key}
 use Rattle.rvd_fact.specs.declared.cells.Cell.{Cell}
 use Rattle.rvd_fact.specs.declared.cells.Change.{Change}
 use Rattle.rvd_fact.specs.declared.values.Value.{Value}
 use Rattle.rvd_fact.specs.declared.values.Value.TheVariants.{Block, Mark, Func, Body, Symbol, Comment, Bookmark, Code, Plain, Ref, Gone}
 use Rattle.rvd_fact.specs.Program.{Program, cell_at, is_present}
 use Rattle.rvd_fact.specs.Memory.{func_key, unit_key, has_instruction, is_code, is_instruction, refs_from}
-use Rattle.rvd_fact.specs.Valid.{is_of, suits, IsValid}
+use Rattle.rvd_fact.specs.Valid.{is_of, IsValid}
 use Rattle.rvd_fact.proofs.Validity.{suits-is_of}
 use Rattle.rvd_ask.specs.declared.asks.Analyzer.TheVariants as analyzer
 use Rattle.rvd_ask.specs.declared.asks.Ask.{Ask}
@@ -22,7 +21,7 @@ use Rattle.rvd_ask.specs.Answers.{ans, only_if, plain_cell, plain_value, told, H
 use Rattle.rvd_ask.specs.Body.{body_asks, body_rule, has_open_body, is_open, member_asks, met_asks, reach_asks, set_body}
 use Rattle.rvd_ask.specs.Places.{body_key, cell_instruction, next_word}
 use Rattle.rvd_ask.specs.Promise.{are_reads, AreAsks, KeepsPromise, Proposed}
-use Rattle.rvd_ask.specs.Reach.{follows, has, inner_target, may_join, reach, spans, ways, IsReached, Walk}
+use Rattle.rvd_ask.specs.Reach.{has, inner_target, may_join, reach, spans, ways, IsReached, Walk}
 use Rattle.rvd_ask.specs.Rules.{asks, rule}
 use Rattle.rvd_ask.specs.Wake.{item}
 use Rattle.rvd_ask.proofs.Plain.{cell_instruction-plain, is_instruction-plain, is_present-plain}
@@ -190,8 +189,7 @@ module _ (P : Program) (e : ℕ) (none reads : List (Ask × Answer)) (empty : no
     unfolding asks
     body_asked q =
         let of_item : body_asks P e ≡ asks P p.item = sym (ap (λ (o : Proposed). asks P o.item) is) in
-        let of_reads : map (λ r. r.0) p.reads ≡ added.asked = ap (λ rs. map (λ r. r.0) rs) proposed_are ∙ asks-told P added.asked in
-        (
+        let of_reads : map (λ r. r.0) p.reads ≡ added.asked = ap (λ rs. map (λ r. r.0) rs) proposed_are ∙ asks-told P added.asked in (
           λ c. subst (λ qs. Contains qs q) of_item ((added.just q).0 (subst (λ qs. Contains qs q) of_reads c)),
           λ c. subst (λ qs. Contains qs q) (sym of_reads) ((added.just q).1 (subst (λ qs. Contains qs q) (sym of_item) c)),
         )

@@ -1,6 +1,6 @@
 -- A program that answers the same to what the rule of functions asks has the same change by it: `funcs_local`. Use
 -- `all_heard` and `all_found` for what was read and changed from nothing on.
-use Rattle.std.proofs.Common.{◌≡◌, ℕ, true, cond, List, [], ◌∷◌, ◌++◌, sym, ap}
+use Rattle.std.proofs.Common.{◌≡◌, ℕ, cond, List, [], ◌∷◌, ◌++◌, sym, ap}
 use Rattle.std.specs.Prelude.{is_none}
 use Rattle.rvd_fact.specs.declared.cells.Change.{Change}
 use Rattle.rvd_fact.specs.declared.values.RefClass.TheVariants.{Call}

@@ -1,12 +1,10 @@
--- The bytes of instructions as a set that is made word by word. Use `words_more` for one more word, `words_all` for the whole,
--- and `same_ranges-pointwise` for the test that two sets are one.
-use Rattle.std.proofs.Common.{◌≡◌, ℕ, ◌+◌, ◌<◌, Bool, true, false, ◌&&◌, ◌||◌, List, [], ◌∷◌, length, take, get_or, refl, sym, ap, ◌∙◌}
+-- The bytes of instructions as a set that is made word by word. Use `words_all` for the whole, and
+-- `same_ranges-pointwise` for the test that two sets are one.
+use Rattle.std.proofs.Common.{◌≡◌, ℕ, Bool, true, false, ◌&&◌, List, [], ◌∷◌, refl, sym, ap, ◌∙◌}
 use Rattle.std.specs.Prelude.{◌==◌}
 use Rattle.std.specs.List.{list_any}
 use Rattle.std.specs.Cmp.Lexicographic.{pointwise}
-use Rattle.std.proofs.lemmas.List.{take_more}
-use Rattle.std.proofs.lemmas.List.Folds.{list_any-append}
-use Rattle.rvd_fact.specs.Ranges.{has_address, in_range, AreRanges, HasJust}
+use Rattle.rvd_fact.specs.Ranges.{AreRanges, HasJust}
 use Rattle.rvd_fact.proofs.RangeEquality.{same_list}
 use Rattle.rvd_ask.specs.Body.{same_ranges}
 use Rattle.rvd_ask.specs.Reach.{spans}
@@ -15,21 +13,6 @@ use Rattle.rvd_an_funcs.proofs.Spans.{in_word, spans_have}
 -- a set has just the bytes of the words
 abbrev pub HasWords : List (ℕ × ℕ) → List ℕ → Type 0
 HasWords rs zs = HasJust rs (λ a. list_any (in_word a) zs)
-
-end : (b : Bool) → (b || false) ≡ b
-end true = refl
-end false = refl
-
-pub words_more : (rs ss : List (ℕ × ℕ)) (zs : List ℕ) (i z : ℕ) → i < length zs → z ≡ get_or zs i 0 → HasWords rs (take i zs) → HasJust ss (λ a. has_address a rs || in_range a (z, z + 3)) → HasWords ss (take (i + 1) zs)
-words_more rs ss zs i z less at before more = record {
-  ranges = more.ranges;
-  addresses = λ a.
-      more.addresses a
-      ∙ (λ j. before.addresses a j || in_word a (at j))
-      ∙ ap (λ b. list_any (in_word a) (take i zs) || b) (sym (end (in_word a (get_or zs i 0))))
-      ∙ sym (list_any-append (in_word a) (take i zs) (get_or zs i 0 ∷ []))
-      ∙ ap (list_any (in_word a)) (sym (take_more zs i 0 less));
-}
 
 -- with all words, it is the set of their bytes
 pub words_all : (rs : List (ℕ × ℕ)) (zs : List ℕ) → AreRanges (spans zs) → HasWords rs zs → rs ≡ spans zs

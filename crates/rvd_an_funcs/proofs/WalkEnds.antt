@@ -1,13 +1,11 @@
 -- How a walk over a function's body ends. Use `walk_short` for how many ways there are at most, and `walk_members` and
 -- `walk_asks` for the end; `reads_begun`, `reads_stepped` and `reads_done` are the same with the reads.
-use Rattle.std.proofs.Common.{◌≡◌, ◌≢◌, ℕ, zero, suc, ◌+◌, ◌<◌, ◌≤◌, Bool, true, false, cond, not, ◌&&◌, ◌||◌, List, [], ◌∷◌, ◌++◌, length, take, get_or, refl, sym, ap, ◌∙◌, subst, inl, inr, ◌⊎◌, arith, length-append}
-use Rattle.std.specs.Prelude.{flat_map, sum_by, Contains, ◌==◌}
+use Rattle.std.proofs.Common.{◌≡◌, ℕ, zero, suc, ◌+◌, ◌<◌, ◌≤◌, Bool, true, false, cond, ◌||◌, List, [], ◌∷◌, ◌++◌, length, get_or, refl, sym, ap, ◌∙◌, subst, inl, inr, arith}
+use Rattle.std.specs.Prelude.{sum_by, Contains, ◌==◌}
 use Rattle.std.specs.Cmp.{both_ways}
-use Rattle.std.proofs.lemmas.Bool.{false≢true, and_parts, and_from, cases_Bool, or_cases, or_left, or_right, eqb-true, eq-eqb, cases_eq}
-use Rattle.std.proofs.lemmas.List.{take_more, take-append-le}
-use Rattle.std.proofs.lemmas.List.Concat.{flat_map-append, length-flat_map}
-use Rattle.std.proofs.lemmas.List.Elements.{Contains-append_cases, Contains-append_left, Contains-append_right}
-use Rattle.rvd_fact.specs.Program.{Program, cell_at, is_present}
+use Rattle.std.proofs.lemmas.Bool.{and_parts, cases_eq}
+use Rattle.std.proofs.lemmas.List.Concat.{length-flat_map}
+use Rattle.rvd_fact.specs.Program.{Program}
 use Rattle.rvd_fact.specs.Memory.{func_key, unit_key, has_instruction}
 use Rattle.rvd_fact.specs.Valid.{IsValid}
 use Rattle.rvd_ask.specs.declared.asks.Ask.{Ask}
@@ -15,14 +13,14 @@ use Rattle.rvd_ask.specs.declared.asks.Ask.TheVariants as ask
 use Rattle.rvd_ask.specs.declared.answers.Answer.{Answer}
 use Rattle.rvd_ask.specs.Answers.{only_if, told}
 use Rattle.rvd_ask.specs.Body.{met_asks, member_asks, reach_asks}
-use Rattle.rvd_ask.specs.Reach.{code_addresses, has, may_join, reach, ways, IsReached, Walk}
+use Rattle.rvd_ask.specs.Reach.{code_addresses, has, may_join, reach, ways, Walk}
 use Rattle.rvd_ask.proofs.CodeAddresses.{are_codes}
-use Rattle.rvd_ask.proofs.Proposing.{append-nil, told-first}
+use Rattle.rvd_ask.proofs.Proposing.{told-first}
 use Rattle.rvd_ask.proofs.ReachWalks.{member, reached}
 use Rattle.rvd_an_funcs.specs.Walks.{AddsBeside, entry_asks, new_asks, new_member, new_ways}
 use Rattle.rvd_an_funcs.proofs.CodeOrder.{reach_codes}
 use Rattle.rvd_an_funcs.proofs.Walked.{walk_begun, walk_step, IsWalked}
-use Rattle.rvd_an_funcs.proofs.Lists.{contains_cases, contains_first, contains_in, contains_later, contains_none, contains_source, Distinct, distinct_push, has_at, has_either, has_first, has_in, has_left, has_one, has_right, has_source, has_take, pigeons}
+use Rattle.rvd_an_funcs.proofs.Lists.{contains_cases, contains_first, contains_later, contains_none, contains_source, has_in, has_take, pigeons}
 
 -- what a walk has found, with the reads that were added
 pub record HasWalked (P : Program) (e : ℕ) (old new : List (Ask × Answer)) (ms ws met : List ℕ) (next : ℕ) : Type 0 where

@@ -18,6 +18,8 @@ mod functions;
 mod keys;
 mod laws;
 mod ranges;
+#[cfg(test)]
+mod tests;
 mod walk;
 mod ways;
 

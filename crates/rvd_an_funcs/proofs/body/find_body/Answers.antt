@@ -1,11 +1,8 @@
-use Rattle.std.proofs.Common.{◌≡◌, List, ℕ, true, false, sym, ap, ◌∙◌, subst}
+use Rattle.std.proofs.Common.{List, ℕ, sym, ap, ◌∙◌, subst}
 use Rattle.std.proofs.lemmas.Result.{on_ok_weaker}
-use Rattle.rvd_fact.specs.Program.{cell_at, is_present}
-use Rattle.rvd_fact.specs.Memory.{func_key}
 use Rattle.rvd_fact.specs.Ranges.{AreRanges}
 use Rattle.rvd_ask.specs.Body.{is_open}
-use Rattle.rvd_ask.specs.Places.{body_key}
-use Rattle.rvd_ask.specs.Reach.{has, reach, spans}
+use Rattle.rvd_ask.specs.Reach.{has, spans}
 use Rattle.rvd_an_funcs.proofs.BodyAsks.{asks_kept, asks_none, asks_walked}
 use Rattle.rvd_an_funcs.proofs.BodyFitting.{reach_ranges}
 use Rattle.rvd_an_funcs.proofs.CodeOrder.{reach_ends}
