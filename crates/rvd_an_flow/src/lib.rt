@@ -16,8 +16,6 @@ mod opening;
 mod rule;
 mod runs;
 mod starts;
-#[cfg(test)]
-mod tests;
 mod words;
 
 pub use laws::{flow_fit, wake_law};

@@ -18,8 +18,6 @@ mod functions;
 mod keys;
 mod laws;
 mod ranges;
-#[cfg(test)]
-mod tests;
 mod walk;
 mod ways;
 

@@ -14,8 +14,6 @@ mod asking;
 mod laws;
 mod rule;
 mod targets;
-#[cfg(test)]
-mod tests;
 
 pub use laws::{refs_fit, wake_law};
 pub use rule::RefsRule;

@@ -25,8 +25,6 @@ mod proposing;
 mod refs;
 mod targets;
 mod waking;
-#[cfg(test)]
-mod tests;
 
 pub use candidate::candidates;
 pub use laws::analysis_laws;

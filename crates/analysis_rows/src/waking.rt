@@ -1,10 +1,10 @@
-use crate::{OutOfMemory, candidates, woken};
 use rvd_ask::{Analyzer, Item};
 use rvd_elf::import;
 use rvd_fact::{Addr, Cell, Change, Key, Kind, RangeSet, RefClass, Source, Value};
 use rvd_program::Program;
+use rvd_wake::{candidates, woken};
 use sample_files::FILE_A;
-use std::alloc::Global;
+use std::alloc::{AllocError, Global};
 use std::test::Fail;
 
 const FLOW: Analyzer = Analyzer::Flow;
@@ -51,7 +51,7 @@ fn body(
     first: Addr,
     last: Addr,
     source: Source,
-) -> Result<Change, OutOfMemory> {
+) -> Result<Change, AllocError> {
     let mut ranges = RangeSet::new(alloc);
     ranges.add(first, last)?;
     Ok(added(at, Kind::Body, Value::Body(ranges), source))
@@ -115,7 +115,7 @@ fn cleared(alloc: Global) -> Result<Program, Fail> {
     Ok(program)
 }
 
-fn items(alloc: Global, places: &[(Analyzer, Addr)]) -> Result<Vec<Item>, OutOfMemory> {
+fn items(alloc: Global, places: &[(Analyzer, Addr)]) -> Result<Vec<Item>, AllocError> {
     let mut list = Vec::new(alloc);
     for (analyzer, at) in places {
         list.push(Item {

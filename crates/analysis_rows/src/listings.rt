@@ -49,11 +49,7 @@ fn settle_item(alloc: Global, program: &mut Program, item: Item) -> Result<bool,
 }
 
 // Whether an analyzer had something to change at one of its candidates.
-fn settle_analyzer(
-    alloc: Global,
-    program: &mut Program,
-    analyzer: Analyzer,
-) -> Result<bool, Fail> {
+fn settle_analyzer(alloc: Global, program: &mut Program, analyzer: Analyzer) -> Result<bool, Fail> {
     let mut changed = false;
     let items = candidates(alloc, program, analyzer)?;
     for item in &items {
@@ -229,11 +225,7 @@ fn what_an_analyst_cleared_stays_away_until_it_is_released(rt: HostRuntime) -> R
     let mut program = noted(alloc)?;
     let before = text(alloc, &program)?;
     assert_eq!(rt; before.as_slice(), LISTING_OF_NOTES.as_bytes());
-    edit(
-        alloc,
-        &mut program,
-        &Edit::Release(Kind::Unit, 0x1005c, 0),
-    )?;
+    edit(alloc, &mut program, &Edit::Release(Kind::Unit, 0x1005c, 0))?;
     settle(alloc, &mut program)?;
     let after = text(alloc, &program)?;
     assert_eq!(rt; after.as_slice(), LISTING_AFTER_A_RELEASE.as_bytes());

@@ -1,10 +1,10 @@
-use crate::{OutOfMemory, RefsRule};
+use rvd_an_refs::RefsRule;
 use rvd_ask::Rule;
 use rvd_elf::import;
 use rvd_fact::{Addr, Bytes, Cell, Change, Key, Kind, Perm, RefClass, Source, Value};
 use rvd_program::Program;
 use sample_files::FILE_A;
-use std::alloc::Global;
+use std::alloc::{AllocError, Global};
 use std::test::Fail;
 
 // A reference as its slot, class and target.
@@ -39,7 +39,7 @@ fn added(at: Addr, kind: Kind, value: Value, source: Source) -> Change {
     }
 }
 
-fn units(alloc: Global, words: &[(Addr, u32)]) -> Result<Vec<Change>, OutOfMemory> {
+fn units(alloc: Global, words: &[(Addr, u32)]) -> Result<Vec<Change>, AllocError> {
     let mut changes = Vec::new(alloc);
     for (at, word) in words {
         changes.push(added(*at, Kind::Unit, Value::Code(*word), Source::Analysis))?;
@@ -47,7 +47,7 @@ fn units(alloc: Global, words: &[(Addr, u32)]) -> Result<Vec<Change>, OutOfMemor
     Ok(changes)
 }
 
-fn block(alloc: Global, at: Addr, len: u32, list: Vec<u8>) -> Result<Change, OutOfMemory> {
+fn block(alloc: Global, at: Addr, len: u32, list: Vec<u8>) -> Result<Change, AllocError> {
     let value = Value::Block {
         len,
         perm: Perm {
@@ -60,7 +60,7 @@ fn block(alloc: Global, at: Addr, len: u32, list: Vec<u8>) -> Result<Change, Out
     Ok(added(at, Kind::Block, value, Source::Imported))
 }
 
-fn code_bytes(alloc: Global, words: &[(Addr, u32)]) -> Result<Vec<u8>, OutOfMemory> {
+fn code_bytes(alloc: Global, words: &[(Addr, u32)]) -> Result<Vec<u8>, AllocError> {
     let mut list: Vec<u8> = Vec::new(alloc);
     for (_, word) in words {
         list.extend_from_slice(&word.to_le_bytes())?;
@@ -95,7 +95,7 @@ fn caller(alloc: Global) -> Result<Program, Fail> {
     Ok(program)
 }
 
-fn proposed(alloc: Global, program: &Program, at: Addr) -> Result<Vec<Reference>, OutOfMemory> {
+fn proposed(alloc: Global, program: &Program, at: Addr) -> Result<Vec<Reference>, AllocError> {
     let proposal = RefsRule.propose(alloc, program, at)?;
     let mut found = Vec::new(alloc);
     for change in proposal.changes() {

@@ -1,10 +1,10 @@
-use crate::{FlowRule, OutOfMemory};
+use rvd_an_flow::FlowRule;
 use rvd_ask::Rule;
 use rvd_elf::import;
 use rvd_fact::{Addr, Cell, Change, Value};
 use rvd_program::Program;
 use sample_files::FILE_A;
-use std::alloc::Global;
+use std::alloc::{AllocError, Global};
 use std::test::Fail;
 
 // What a change of flow adds.
@@ -35,9 +35,9 @@ fn added(change: &Change) -> Addition {
     }
 }
 
-fn program_of(alloc: Global, file: &[u8]) -> Result<Program, OutOfMemory> {
+fn program_of(alloc: Global, file: &[u8]) -> Result<Program, AllocError> {
     let Ok(facts) = import(alloc, file) else {
-        return Err(OutOfMemory);
+        return Err(AllocError);
     };
     let mut program = Program::empty(alloc)?;
     let fits = program.fits(&facts)?;
@@ -48,7 +48,7 @@ fn program_of(alloc: Global, file: &[u8]) -> Result<Program, OutOfMemory> {
 }
 
 // Flow's changes at an address, which are applied.
-fn settle(alloc: Global, program: &mut Program, at: Addr) -> Result<Vec<Addition>, OutOfMemory> {
+fn settle(alloc: Global, program: &mut Program, at: Addr) -> Result<Vec<Addition>, AllocError> {
     let proposal = FlowRule.propose(alloc, program, at)?;
     let mut list = Vec::new(alloc);
     for change in proposal.changes() {

@@ -1,8 +1,8 @@
-use crate::{BodyRule, FuncsRule, OutOfMemory};
+use rvd_an_funcs::{BodyRule, FuncsRule};
 use rvd_ask::{Proposal, Rule};
 use rvd_fact::{Addr, Bytes, Cell, Change, Key, Kind, Perm, RefClass, Source, Value};
 use rvd_program::Program;
-use std::alloc::Global;
+use std::alloc::{AllocError, Global};
 use std::test::Fail;
 
 // A start that calls a function, which returns, and then stays where it is.
@@ -26,7 +26,7 @@ fn added(at: Addr, kind: Kind, value: Value, source: Source) -> Change {
     }
 }
 
-fn block(alloc: Global) -> Result<Change, OutOfMemory> {
+fn block(alloc: Global) -> Result<Change, AllocError> {
     let mut list: Vec<u8> = Vec::new(alloc);
     for (_, word) in UNITS {
         list.extend_from_slice(&word.to_le_bytes())?;
