@@ -20,7 +20,9 @@ const MOST: u32 = 0x1_0000;
 
 // addi zero, zero, 0; beq zero, zero, 8; and jalr zero, 0(ra).
 const NOTHING: u32 = 0x0000_0013;
+
 const BRANCH: u32 = 0x0000_0463;
+
 const RETURN: u32 = 0x0000_8067;
 
 fn word(index: u32, count: u32) -> u32 {
