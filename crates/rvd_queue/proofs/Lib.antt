@@ -1,0 +1,6 @@
+mod OrderedLists
+mod ItemSets
+mod Members
+mod SweptCells
+mod FirstItems
+mod JobLists

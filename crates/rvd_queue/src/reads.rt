@@ -1,0 +1,57 @@
+ghost use Rattle.std.specs.Prelude.{◌≡◌, true, length, slice_get, take, IfOk};
+ghost use Rattle.std.specs.List.{list_all};
+ghost use Rattle.rvd_queue.specs.Cells.{InOrder, is_from, queued_in};
+
+use crate::cells::Cell;
+use rvd_ask::Item;
+use std::alloc::{AllocError, Global};
+use std::cmp::Ordering;
+use std::collections::BTreeMap;
+
+/// The number of queued items.
+pub fn count_queued(cells: &BTreeMap<Item, Cell>) -> usize
+    ensures { result ≡ length (queued_in cells.now.entries) }
+{
+    cells.values().filter(|cell| cell.queued).count()
+}
+
+/// The least `n` queued items, where none before `start` is queued.
+pub fn least(
+    alloc: Global,
+    cells: &BTreeMap<Item, Cell>,
+    start: Item,
+    n: usize,
+) -> Result<Vec<Item>, AllocError>
+    requires { list_all (is_from start) (queued_in cells.now.entries) ≡ true }
+    ensures { IfOk result (λ list. list.items ≡ take n (queued_in cells.now.entries)) }
+{
+    cells
+        .range(start..)
+        .filter(|(_, cell)| cell.queued)
+        .take(n)
+        .map(|(item, _)| *item)
+        .collect(alloc)
+}
+
+/// The first queued item, where none before `start` is queued.
+pub fn first_queued(cells: &BTreeMap<Item, Cell>, start: Item) -> Option<Item>
+    requires { list_all (is_from start) (queued_in cells.now.entries) ≡ true }
+    ensures { result ≡ slice_get (queued_in cells.now.entries) 0 }
+{
+    let (item, _) = cells.range(start..).find(|(_, cell)| cell.queued)?;
+    Some(*item)
+}
+
+/// An item that none of some items comes before, nor `start`.
+pub fn earliest(start: Item, items: &[Item]) -> Item
+    ensures start { is_from result start ≡ true }
+    ensures items { list_all (is_from result) items.now ≡ true }
+{
+    let mut first = start;
+    for item in items {
+        if let Ordering::Less = item.order(&first) {
+            first = *item;
+        }
+    }
+    first
+}
