@@ -1,0 +1,8 @@
+//! The machine of one thread, as definitions: what every call of the desk answers, and what it makes of the state.
+//!
+//! The definitions stand in `specs/`: `Enabled` (which analyzers work, and which of their items join a queue), `State` (the
+//! state, at the start and what is asked of it), `Verdicts` (what becomes of the items of a job that is offered), `Moves`
+//! (what each event makes of the state), `Replies` (the first refusal in order, or else the reply), `Exact` (the one reply
+//! to an offer of given proposals), `Ranges` (what the types of a reply keep), and `Steps` (which entries are steps, which
+//! journals are legal, and the state that a journal leads to).
+#![tactic(auto)]
