@@ -1,0 +1,4 @@
+pub mod Journals
+mod Replied
+mod Jobs
+mod Bounds

@@ -1,6 +1,6 @@
 -- Which entries are steps of the machine, which journals are legal, and the state that a journal leads to. Use `IsLegal` and
 -- `state` for what a run promises, and `base_at` for the program that a read of so many steps has.
-use Rattle.std.specs.Prelude.{◌≡◌, ℕ, ◌+◌, ◌≤◌, Bool, true, false, ◌&&◌, ◌||◌, nat_lt, nat_le, List, [], ◌∷◌, length, if◌then◌else◌}
+use Rattle.std.specs.Prelude.{◌≡◌, ℕ, ◌+◌, ◌*◌, ◌≤◌, Bool, true, false, ◌&&◌, ◌||◌, nat_lt, nat_le, List, [], ◌∷◌, length, if◌then◌else◌}
 use Rattle.rvd_fact.specs.Program.{Program}
 use Rattle.rvd_fact.specs.Valid.{IsValid}
 use Rattle.rvd_event.specs.declared.events.Event.{Event}
@@ -10,7 +10,7 @@ use Rattle.rvd_event.specs.declared.replies.Reply.TheVariants as reply
 use Rattle.rvd_event.specs.declared.verdicts.Verdict.{Verdict}
 use Rattle.rvd_journal.specs.declared.entries.Entry.{Entry}
 use Rattle.rvd_journal.specs.Entries.{is_event}
-use Rattle.rvd_machine.specs.State.{State, base, lives, lives_of, is_session, first_state}
+use Rattle.rvd_machine.specs.State.{State, Job, base, lives, lives_of, is_session, first_state}
 use Rattle.rvd_machine.specs.Moves.{move, settled, settled_step}
 use Rattle.rvd_machine.specs.Replies.{IsReply}
 use Rattle.rvd_machine.specs.Ranges.{is_reply}
@@ -109,3 +109,24 @@ base_at_from n s (e ∷ es) = if nat_le n (length s.steps) then base s else base
 
 abbrev pub base_at : Head → List Entry → ℕ → Program
 base_at h J n = base_at_from n (start_of h) J
+
+-- the tickets of jobs rise from a number on, all below another, and each job has at most 64 items
+abbrev pub AreJobs : ℕ → ℕ → List Job → Type 0
+AreJobs from next [] = from ≤ next
+AreJobs from next (job ∷ jobs) = (from ≤ job.ticket) × (length job.items ≤ 64) × AreJobs (job.ticket + 1) next jobs
+
+-- what is bounded in the state after a journal of this length
+pub record IsBounded (h : Head) (n : ℕ) (s : State) : Type 0 where
+  pub sessions : s.sessions ≡ h.sessions
+  pub workers : s.workers ≡ h.workers
+  pub count : s.count ≡ n
+  pub lives : lives s ≤ 64
+  pub open_sessions : length s.open_sessions ≤ 16
+  pub entries : s.next_entry ≤ n + 1
+  pub tickets : s.next_ticket ≤ n + 1
+  pub jobs : AreJobs 1 s.next_ticket s.taken
+  pub steps : length s.steps ≤ 2 * n
+
+-- the state after each legal journal is bounded
+abbrev pub LegalIsBounded : Type 0
+LegalIsBounded = (h : Head) (J : List Entry) → IsLegal h J → IsBounded h (length J) (state h J)

@@ -5,4 +5,15 @@
 //! (what each event makes of the state), `Replies` (the first refusal in order, or else the reply), `Exact` (the one reply
 //! to an offer of given proposals), `Ranges` (what the types of a reply keep), and `Steps` (which entries are steps, which
 //! journals are legal, and the state that a journal leads to).
+//!
+//! * [`journals_are_bounded`] is a law of all legal journals.
 #![tactic(auto)]
+
+ghost use Rattle.rvd_machine.specs.Steps.{LegalIsBounded};
+
+/// In the state after a legal journal at most 64 entries are live and at most 16 sessions open, the journal's length is
+/// counted, and its numbers of entries of transactions and of tickets don't pass it. It has at most two steps for each
+/// entry, and the jobs that are taken have rising tickets below the next one and at most 64 items each.
+pub fn journals_are_bounded()
+    ensures { LegalIsBounded }
+{}
