@@ -6,3 +6,5 @@ pub mod Replies
 pub mod Exact
 pub mod Ranges
 pub mod Steps
+pub mod Sound
+pub mod RuleLaws

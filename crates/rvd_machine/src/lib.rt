@@ -6,10 +6,18 @@
 //! to an offer of given proposals), `Ranges` (what the types of a reply keep), and `Steps` (which entries are steps, which
 //! journals are legal, and the state that a journal leads to).
 //!
-//! * [`journals_are_bounded`] is a law of all legal journals.
+//! Laws of all legal journals:
+//!
+//! * [`journals_are_bounded`] bounds what a state has.
+//! * [`no_event_is_lost`] says that while a whole analysis stands, whatever an analyzer would change waits for it.
 #![tactic(auto)]
 
+ghost use Rattle.rvd_machine.specs.RuleLaws.{RuleLaws};
+ghost use Rattle.rvd_machine.specs.Sound.{LegalIsSound};
 ghost use Rattle.rvd_machine.specs.Steps.{LegalIsBounded};
+
+use rvd_ask::{candidate_law, listing_law};
+use rvd_edit::{edits_fit, edits_set_no_analysis};
 
 /// In the state after a legal journal at most 64 entries are live and at most 16 sessions open, the journal's length is
 /// counted, and its numbers of entries of transactions and of tickets don't pass it. It has at most two steps for each
@@ -17,3 +25,15 @@ ghost use Rattle.rvd_machine.specs.Steps.{LegalIsBounded};
 pub fn journals_are_bounded()
     ensures { LegalIsBounded }
 {}
+
+/// In the state after a legal journal all programs are valid. While a whole analysis stands there, each item of an enabled
+/// analyzer whose rule has a change on the working program is queued or taken; and where a transaction is open, each whose
+/// rule has a change on the committed program is kept.
+pub fn no_event_is_lost()
+    ensures { RuleLaws → LegalIsSound }
+{
+    listing_law();
+    candidate_law();
+    edits_fit();
+    edits_set_no_analysis();
+}

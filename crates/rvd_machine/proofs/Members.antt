@@ -1,0 +1,123 @@
+-- Which items are in a set after it gains or loses some, and in the jobs that are taken. Use `has_item-with_all`,
+-- `has_item-filter`, `not_listed`, `not_woken` and `is_taken-items`.
+use Rattle.std.proofs.Common.{◌≡◌, ℕ, ◌^◌, ◌<◌, Bool, true, false, cond, not, ◌&&◌, ◌||◌, nat_lt, List, [], ◌∷◌, ◌++◌, take, drop, filter, Option, Some, None, refl, sym, ap, ◌∙◌, subst}
+use Rattle.std.specs.Prelude.{unwrap_or, ◌==◌}
+use Rattle.std.specs.Ordering.{match_ordering}
+use Rattle.std.specs.declared.cmp.Ordering.{Ordering}
+use Rattle.std.specs.declared.cmp.Ordering.TheVariants.{Less, Equal, Greater}
+use Rattle.std.proofs.lemmas.Bool.{or_parts, or_from, and_parts, false≢true, true≢false, lt-ltb}
+use Rattle.std.proofs.lemmas.Cmp.{eq_by_cmp_equiv}
+use Rattle.std.proofs.lemmas.List.{take-append-drop}
+use Rattle.std.proofs.lemmas.List.Folds.{list_any-append}
+use Rattle.std.proofs.lemmas.Map.Made.{is_member-filter}
+use Rattle.rvd_fact.specs.declared.cells.Change.{Change}
+use Rattle.rvd_fact.specs.Program.{Program, applied}
+use Rattle.rvd_ask.specs.declared.asks.Analyzer.{Analyzer}
+use Rattle.rvd_ask.specs.declared.asks.Analyzer.TheVariants.{Flow, Refs, Funcs, Body, Strings}
+use Rattle.rvd_ask.specs.declared.asks.Item.{Item}
+use Rattle.rvd_ask.specs.Order.{item_cmp, same_item}
+use Rattle.rvd_ask.specs.Unsettled.{has_item, items_where, same_analyzer, woken, ListingLaw}
+use Rattle.rvd_ask.specs.Wake.{any_wakes, wakes}
+use Rattle.rvd_ask.proofs.ItemOrder.{items_total, items_exact, same_item-true}
+use Rattle.rvd_queue.specs.Sets.{with, with_all}
+use Rattle.rvd_machine.specs.Enabled.{Enabled, is_on, switched, only_on, woken_into}
+use Rattle.rvd_machine.specs.State.{Job, is_taken, taken_items, job_of, other_jobs}
+
+or_assoc : (a b c : Bool) → (a || (b || c)) ≡ ((a || b) || c)
+or_assoc true b c = refl
+or_assoc false b c = refl
+
+or_swap : (a b c : Bool) → (a || (b || c)) ≡ (b || (a || c))
+or_swap true true c = refl
+or_swap true false c = refl
+or_swap false b c = refl
+
+or_twice : (a b : Bool) → (a || (a || b)) ≡ (a || b)
+or_twice true b = refl
+or_twice false b = refl
+
+-- ---- sets
+pub has_item-with : (j i : Item) (items : List Item) → has_item j (with i items) ≡ (same_item j i || has_item j items)
+has_item-with j i [] = refl
+has_item-with j i (x ∷ items) = by (item_cmp i x) refl (has_item-with j i items)
+  where
+    by : (o : Ordering) → item_cmp i x ≡ o → has_item j (with i items) ≡ (same_item j i || has_item j items) → has_item j (match_ordering o (i ∷ x ∷ items) (x ∷ items) (x ∷ with i items)) ≡ (same_item j i || (same_item j x || has_item j items))
+    by Less e rest = refl
+    by Equal e rest = sym (ap (λ (y : Item). same_item j y || (same_item j x || has_item j items)) (items_exact i x e) ∙ or_twice (same_item j x) (has_item j items))
+    by Greater e rest = ap (λ (b : Bool). same_item j x || b) rest ∙ or_swap (same_item j x) (same_item j i) (has_item j items)
+
+pub has_item-with_all : (j : Item) (more items : List Item) → has_item j (with_all more items) ≡ (has_item j more || has_item j items)
+has_item-with_all j [] items = refl
+has_item-with_all j (i ∷ more) items =
+    has_item-with_all j more (with i items)
+    ∙ ap (λ (b : Bool). has_item j more || b) (has_item-with j i items)
+    ∙ or_swap (has_item j more) (same_item j i) (has_item j items)
+    ∙ or_assoc (same_item j i) (has_item j more) (has_item j items)
+
+pub has_item-append : (j : Item) (items others : List Item) → has_item j (items ++ others) ≡ (has_item j items || has_item j others)
+has_item-append j items others = list_any-append (same_item j) items others
+
+pub has_item-parted : (j : Item) (n : ℕ) (items : List Item) → has_item j items ≡ (has_item j (take n items) || has_item j (drop n items))
+has_item-parted j n items = ap (has_item j) (sym (take-append-drop n items)) ∙ has_item-append j (take n items) (drop n items)
+
+-- an item that passes a test stays
+pub has_item-filter : (j : Item) (test : Item → Bool) (items : List Item) → test j ≡ true → has_item j (filter test items) ≡ has_item j items
+has_item-filter j test items passes =
+    is_member-filter (eq_by_cmp_equiv items_total) test j (λ i same. ap test (same_item-true j i same)) items
+    ∙ ap (λ b. has_item j items && b) passes
+    ∙ and_true (has_item j items)
+  where
+    and_true : (b : Bool) → (b && true) ≡ b
+    and_true true = refl
+    and_true false = refl
+
+-- ---- listings
+pub not_listed : ListingLaw → (test : Item → Bool) (i : Item) → i.at < 2 ^ 32 → has_item i (items_where test) ≡ false → test i ≡ false
+not_listed listing test i below none =
+    ap (λ b. b && test i) (sym (lt-ltb i.at (2 ^ 32) below)) ∙ sym ((listing (2 ^ 32) test).lists.members i) ∙ none
+
+-- ---- what changes wake
+pub not_woken : ListingLaw → (i : Item) (E : Enabled) → i.at < 2 ^ 32 → is_on E i.analyzer ≡ true → (cs : List Change) (S : Program) (queue : List Item) → has_item i (woken_into E S cs queue) ≡ false → (any_wakes S cs i ≡ false) × (has_item i queue ≡ false)
+not_woken listing i E below on [] S queue none = (refl, none)
+not_woken listing i E below on (c ∷ cs) S queue none =
+    let items = woken (applied S c) c in
+    let later = not_woken listing i E below on cs (applied S c) (with_all (only_on E items) queue) none in
+    let parts = or_parts (has_item i (only_on E items)) (has_item i queue) (sym (has_item-with_all i (only_on E items) queue) ∙ later.1) in
+    let asleep = not_listed listing (wakes (applied S c) c) i below (sym (has_item-filter i (λ (j : Item). is_on E j.analyzer) items on) ∙ parts.0) in
+    (or_from (wakes (applied S c) c i) (any_wakes (applied S c) cs i) asleep later.0, parts.1)
+
+-- ---- the switch of one analyzer, and of the others
+pub is_on-switched_same : (E : Enabled) (a : Analyzer) (on : Bool) → is_on (switched E a on) a ≡ on
+is_on-switched_same E Flow on = refl
+is_on-switched_same E Refs on = refl
+is_on-switched_same E Funcs on = refl
+is_on-switched_same E Body on = refl
+is_on-switched_same E Strings on = refl
+
+pub is_on-switched_other : (E : Enabled) (a b : Analyzer) (on : Bool) → same_analyzer a b ≡ false → is_on (switched E a on) b ≡ is_on E b
+is_on-switched_other E Flow Flow on h = absurd (true≢false h)
+is_on-switched_other E Refs Refs on h = absurd (true≢false h)
+is_on-switched_other E Funcs Funcs on h = absurd (true≢false h)
+is_on-switched_other E Body Body on h = absurd (true≢false h)
+is_on-switched_other E Strings Strings on h = absurd (true≢false h)
+is_on-switched_other E a b on h = refl
+
+-- ---- the jobs that are taken
+pub is_taken-items : (j : Item) (jobs : List Job) → has_item j (taken_items jobs) ≡ is_taken j jobs
+is_taken-items j [] = refl
+is_taken-items j (job ∷ jobs) = has_item-append j job.items (taken_items jobs) ∙ ap (λ (b : Bool). has_item j job.items || b) (is_taken-items j jobs)
+
+pub is_taken-append : (j : Item) (jobs more : List Job) → is_taken j (jobs ++ more) ≡ (is_taken j jobs || is_taken j more)
+is_taken-append j [] more = refl
+is_taken-append j (job ∷ jobs) more = ap (λ (b : Bool). has_item j job.items || b) (is_taken-append j jobs more) ∙ or_assoc (has_item j job.items) (is_taken j jobs) (is_taken j more)
+
+-- an item that is in no other job and not in this one is in none
+pub not_taken : (i : Item) (ticket : ℕ) (jobs : List Job) (job : Job) → job_of ticket jobs ≡ Some job → is_taken i (other_jobs ticket jobs) ≡ false → has_item i job.items ≡ false → is_taken i jobs ≡ false
+not_taken i ticket [] job found others none = refl
+not_taken i ticket (x ∷ jobs) job found others none = by (x.ticket == ticket) (λ later rest. not_taken i ticket jobs job later rest none) found others
+  where
+    by : (b : Bool) → (job_of ticket jobs ≡ Some job → is_taken i (other_jobs ticket jobs) ≡ false → is_taken i jobs ≡ false) → cond b (Some x) (job_of ticket jobs) ≡ Some job → is_taken i (cond b jobs (x ∷ other_jobs ticket jobs)) ≡ false → (has_item i x.items || is_taken i jobs) ≡ false
+    by true back this others = or_from (has_item i x.items) (is_taken i jobs) (ap (λ (y : Job). has_item i y.items) (ap (λ (o : Option Job). unwrap_or o job) this) ∙ none) others
+    by false back later others =
+        let parts = or_parts (has_item i x.items) (is_taken i (other_jobs ticket jobs)) others in
+        or_from (has_item i x.items) (is_taken i jobs) parts.0 (back later parts.1)

@@ -1,0 +1,66 @@
+-- No event is lost. Use `Sound` for what every state keeps that a legal journal leads to: its programs are valid, and while a
+-- whole analysis stands, whatever an enabled analyzer would change is queued, taken or kept. `AreClosed` says the same of
+-- the ends of analyses: nothing is left to change.
+use Rattle.std.specs.Prelude.{◌≡◌, ℕ, ◌^◌, ◌<◌, Bool, true, false, List, [], ◌∷◌, map, Option, Some, None, ◌⊎◌}
+use Rattle.rvd_fact.specs.Program.{Program}
+use Rattle.rvd_fact.specs.Valid.{IsValid}
+use Rattle.rvd_ask.specs.declared.asks.Item.{Item}
+use Rattle.rvd_ask.specs.Rules.{rule}
+use Rattle.rvd_ask.specs.Unsettled.{has_item, IsClosed}
+use Rattle.rvd_event.specs.declared.replies.Reply.TheVariants.{SettledAt}
+use Rattle.rvd_journal.specs.declared.entries.Entry.{Entry}
+use Rattle.rvd_machine.specs.Enabled.{Enabled, is_on, enabled_analyzers}
+use Rattle.rvd_machine.specs.State.{State, Open, Job, base, work, waits}
+use Rattle.rvd_machine.specs.Steps.{Head, start_of, state, after, IsLegal}
+
+-- each item of an enabled analyzer that a test doesn't name is settled
+abbrev pub IsSettledBut : Enabled → Program → (Item → Bool) → Type 0
+IsSettledBut E S named = (i : Item) → i.at < 2 ^ 32 → is_on E i.analyzer ≡ true → named i ≡ false → rule S i ≡ []
+
+-- whether an item is kept; where nothing is open there is nothing to keep
+abbrev pub is_kept : Option Open → Item → Bool
+is_kept None i = true
+is_kept (Some o) i = has_item i o.kept
+
+-- while a whole analysis stands, what is unsettled in the working program is queued or taken, and with a transaction open
+-- what is unsettled in the committed program is kept
+pub record IsNoneLost (s : State) : Type 0 where
+  pub work : s.whole ≡ true → IsSettledBut s.enabled (work s) (waits s)
+  pub base : s.whole ≡ true → IsSettledBut s.enabled (base s) (is_kept s.current)
+
+-- each program of the state is valid: the committed one, the working one, those before and after them in the history, and
+-- those of the jobs that are taken
+abbrev pub AreValid : List Program → Type 0
+AreValid [] = Unit {0}
+AreValid (S ∷ programs) = IsValid S × AreValid programs
+
+abbrev pub programs_of : List Job → List Program
+programs_of jobs = map (λ (job : Job). job.program) jobs
+
+pub record AreAllValid (s : State) : Type 0 where
+  pub base : IsValid (base s)
+  pub work : IsValid (work s)
+  pub past : AreValid s.history.past
+  pub undone : AreValid s.history.undone
+  pub taken : AreValid (programs_of s.taken)
+
+pub record Sound (s : State) : Type 0 where
+  pub valid : AreAllValid s
+  pub none_lost : IsNoneLost s
+
+-- the state after each legal journal is sound
+abbrev pub LegalIsSound : Type 0
+LegalIsSound = (h : Head) (J : List Entry) → IsLegal h J → Sound (state h J)
+
+-- at each entry that names a Settled step, and at each that answers SettledAt, no enabled analyzer would change the
+-- committed program, where s is the state before these entries
+abbrev pub IsClosedAt : State → Entry → Type 0
+IsClosedAt s e = (n : ℕ) → (e.settled ≡ Some n) ⊎ (e.reply ≡ SettledAt n) → IsClosed (base s) (enabled_analyzers s.enabled)
+
+abbrev pub AreClosed : State → List Entry → Type 0
+AreClosed s [] = Unit {0}
+AreClosed s (e ∷ es) = IsClosedAt (after s e) e × AreClosed (after s e) es
+
+-- so it is along each legal journal
+abbrev pub SettledIsClosed : Type 0
+SettledIsClosed = (h : Head) (J : List Entry) → IsLegal h J → AreClosed (start_of h) J
