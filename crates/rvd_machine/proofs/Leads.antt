@@ -189,6 +189,14 @@ edits_lead S [] valid fits h = tt
 edits_lead S (c ∷ cs) valid fits h =
     (record { before = valid; here = fits.0; after = fits.1; by_rule = λ e same own. absurd (false≢true (sym (not_own c.after h.0) ∙ own)) }, edits_lead (applied S c) cs fits.1 fits.2 h.1)
 
+-- ---- all of it, from what the law functions of the crates below give
+pub each_analyzer : CandidateLaw Flow → CandidateLaw Refs → CandidateLaw Funcs → CandidateLaw Body → CandidateLaw Strings → (a : Analyzer) → CandidateLaw a
+each_analyzer flow refs funcs body strings Flow = flow
+each_analyzer flow refs funcs body strings Refs = refs
+each_analyzer flow refs funcs body strings Funcs = funcs
+each_analyzer flow refs funcs body strings Body = body
+each_analyzer flow refs funcs body strings Strings = strings
+
 pub laws_of : RuleLaws → ListingLaw → ((a : Analyzer) → CandidateLaw a) → FitsLaw → NoAnalysisLaw → Laws
 laws_of R listing candidates fits no_analysis = record {
   listing = listing;

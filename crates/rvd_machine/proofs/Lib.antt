@@ -8,3 +8,4 @@ pub mod Keeps
 pub mod Analyses
 pub mod Offers
 pub mod Whole
+mod Closed

@@ -10,10 +10,11 @@
 //!
 //! * [`journals_are_bounded`] bounds what a state has.
 //! * [`no_event_is_lost`] says that while a whole analysis stands, whatever an analyzer would change waits for it.
+//! * [`settled_is_closed`] says that where an analysis ends, no analyzer would change the committed program.
 #![tactic(auto)]
 
 ghost use Rattle.rvd_machine.specs.RuleLaws.{RuleLaws};
-ghost use Rattle.rvd_machine.specs.Sound.{LegalIsSound};
+ghost use Rattle.rvd_machine.specs.Sound.{LegalIsSound, SettledIsClosed};
 ghost use Rattle.rvd_machine.specs.Steps.{LegalIsBounded};
 
 use rvd_ask::{candidate_law, listing_law};
@@ -31,6 +32,17 @@ pub fn journals_are_bounded()
 /// rule has a change on the committed program is kept.
 pub fn no_event_is_lost()
     ensures { RuleLaws → LegalIsSound }
+{
+    listing_law();
+    candidate_law();
+    edits_fit();
+    edits_set_no_analysis();
+}
+
+/// At each entry of a legal journal that names a Settled step, and at each that answers SettledAt, no enabled analyzer would
+/// change the committed program.
+pub fn settled_is_closed()
+    ensures { RuleLaws → SettledIsClosed }
 {
     listing_law();
     candidate_law();
