@@ -8,14 +8,13 @@ use Rattle.rvd_ask.specs.declared.asks.Item.{Item}
 use Rattle.rvd_ask.specs.Order.{priority}
 use Rattle.rvd_ask.specs.Rules.{rule}
 use Rattle.rvd_ask.specs.Unsettled.{has_item, candidates, same_analyzer}
-use Rattle.rvd_ask.specs.Wake.{is_candidate}
 use Rattle.rvd_ask.proofs.ItemOrder.{same_analyzer as one_analyzer}
 use Rattle.rvd_queue.specs.Sets.{with_all, without_analyzer}
 use Rattle.rvd_machine.specs.Enabled.{Enabled, is_on, switched, all_candidates}
 use Rattle.rvd_machine.specs.State.{State, Open, Job, base, work, work_in, is_taken, waits}
 use Rattle.rvd_machine.specs.Moves.{kept_with, gained, filled, turned_on, kept_without, turned_off, turned, kept_none, cancelled, taken_by}
 use Rattle.rvd_machine.specs.Sound.{Sound, AreAllValid, AreValid, IsNoneLost, IsSettledBut, is_kept, programs_of}
-use Rattle.rvd_machine.proofs.Members.{has_item-with_all, has_item-filter, has_item-parted, not_listed, is_on-switched_same, is_on-switched_other, is_taken-append}
+use Rattle.rvd_machine.proofs.Members.{has_item-with_all, has_item-filter, has_item-parted, no_candidate, is_on-switched_same, is_on-switched_other, is_taken-append}
 use Rattle.rvd_machine.proofs.Leads.{Laws}
 
 -- ---- what is gained
@@ -36,10 +35,8 @@ valid_gained : (s : State) (items : List Item) → AreAllValid s → IsValid (wo
 valid_gained s items valid = subst IsValid (sym (work_with (base s) items s.current)) valid.work
 
 -- ---- a whole analysis
-candidate_or_settled : Laws → (E : Enabled) (S : Program) (i : Item) → IsValid S → i.at < 2 ^ 32 → is_on E i.analyzer ≡ true → has_item i (all_candidates E S) ≡ false → rule S i ≡ []
-candidate_or_settled L E S i valid below on none =
-    L.candidates i.analyzer S i.at valid
-    (ap (λ b. b && is_candidate S i) (sym on) ∙ not_listed L.listing (λ j. is_on E j.analyzer && is_candidate S j) i below none)
+candidate_or_settled : Laws → (E : Enabled) (S : Program) (i : Item) → IsValid S → is_on E i.analyzer ≡ true → has_item i (all_candidates E S) ≡ false → rule S i ≡ []
+candidate_or_settled L E S i valid on none = L.analysis.candidate S i valid (no_candidate L.listing E S i on none)
 
 pub full_keeps : Laws → (s : State) → Sound s → Sound (filled s)
 full_keeps L s h =
@@ -48,20 +45,18 @@ full_keeps L s h =
     record {
       valid = record { base = h.valid.base; work = valid_gained s of_base h.valid; past = h.valid.past; undone = h.valid.undone; taken = h.valid.taken };
       none_lost = record {
-        work = λ whole i below on none.
+        work = λ whole i on none.
             let parts = or_parts (has_item i (with_all of_work (with_all of_base s.queue))) (is_taken i s.taken) none in
             ap (λ (S : Program). rule S i) (work_with (base s) of_base s.current)
-            ∙ candidate_or_settled L s.enabled (work s) i h.valid.work below on (not_gained i of_work of_base s.queue parts.0).0;
-        base = λ whole i below on none.
-            candidate_or_settled L s.enabled (base s) i h.valid.base below on (not_kept i of_base s.current none).0;
+            ∙ candidate_or_settled L s.enabled (work s) i h.valid.work on (not_gained i of_work of_base s.queue parts.0).0;
+        base = λ whole i on none.
+            candidate_or_settled L s.enabled (base s) i h.valid.base on (not_kept i of_base s.current none).0;
       };
     }
 
 -- ---- an analyzer is enabled: its items by the candidates, the others as before
-of_one : Laws → (S : Program) (a : Analyzer) (i : Item) → IsValid S → i.at < 2 ^ 32 → same_analyzer a i.analyzer ≡ true → has_item i (candidates S a) ≡ false → rule S i ≡ []
-of_one L S a i valid below same none =
-    L.candidates i.analyzer S i.at valid
-    (ap (λ b. b && is_candidate S i) (sym same) ∙ not_listed L.listing (λ j. same_analyzer a j.analyzer && is_candidate S j) i below none)
+of_one : Laws → (S : Program) (a : Analyzer) (i : Item) → IsValid S → same_analyzer a i.analyzer ≡ true → has_item i (candidates S a) ≡ false → rule S i ≡ []
+of_one L S a i valid same none = L.analysis.candidate S i valid (ap (λ (b : Analyzer). has_item i (candidates S b)) (sym (one_analyzer a i.analyzer (eqb-true (priority a) (priority i.analyzer) same))) ∙ none)
 
 by_analyzer : (a b : Analyzer) (X : Type 0) → (same_analyzer a b ≡ true → X) → (same_analyzer a b ≡ false → X) → X
 by_analyzer a b X same other = by (same_analyzer a b) refl
@@ -77,18 +72,18 @@ enable_keeps L s a h =
     record {
       valid = record { base = h.valid.base; work = valid_gained s of_base h.valid; past = h.valid.past; undone = h.valid.undone; taken = h.valid.taken };
       none_lost = record {
-        work = λ whole i below on none.
+        work = λ whole i on none.
             let parts = or_parts (has_item i (with_all of_work (with_all of_base s.queue))) (is_taken i s.taken) none in
             let apart = not_gained i of_work of_base s.queue parts.0 in
             ap (λ (S : Program). rule S i) (work_with (base s) of_base s.current)
             ∙ by_analyzer a i.analyzer (rule (work s) i ≡ [])
-            (λ same. of_one L (work s) a i h.valid.work below same apart.0)
-            (λ other. h.none_lost.work whole i below (sym (is_on-switched_other s.enabled a i.analyzer true other) ∙ on) (or_from (has_item i s.queue) (is_taken i s.taken) apart.1 parts.1));
-        base = λ whole i below on none.
+            (λ same. of_one L (work s) a i h.valid.work same apart.0)
+            (λ other. h.none_lost.work whole i (sym (is_on-switched_other s.enabled a i.analyzer true other) ∙ on) (or_from (has_item i s.queue) (is_taken i s.taken) apart.1 parts.1));
+        base = λ whole i on none.
             let apart = not_kept i of_base s.current none in
             by_analyzer a i.analyzer (rule (base s) i ≡ [])
-            (λ same. of_one L (base s) a i h.valid.base below same apart.0)
-            (λ other. h.none_lost.base whole i below (sym (is_on-switched_other s.enabled a i.analyzer true other) ∙ on) apart.1);
+            (λ same. of_one L (base s) a i h.valid.base same apart.0)
+            (λ other. h.none_lost.base whole i (sym (is_on-switched_other s.enabled a i.analyzer true other) ∙ on) apart.1);
       };
     }
 
@@ -110,15 +105,15 @@ disable_keeps : (s : State) (a : Analyzer) → Sound s → Sound (turned_off s a
 disable_keeps s a h = record {
   valid = record { base = h.valid.base; work = subst IsValid (sym (work_without (base s) a s.current)) h.valid.work; past = h.valid.past; undone = h.valid.undone; taken = h.valid.taken };
   none_lost = record {
-    work = λ whole i below on none.
+    work = λ whole i on none.
         let other = other_on s.enabled a i.analyzer on in
         let parts = or_parts (has_item i (without_analyzer a s.queue)) (is_taken i s.taken) none in
         let queued = sym (has_item-filter i (λ j. not (same_analyzer a j.analyzer)) s.queue (ap not other)) ∙ parts.0 in
         ap (λ (S : Program). rule S i) (work_without (base s) a s.current)
-        ∙ h.none_lost.work whole i below (sym (is_on-switched_other s.enabled a i.analyzer false other) ∙ on) (or_from (has_item i s.queue) (is_taken i s.taken) queued parts.1);
-    base = λ whole i below on none.
+        ∙ h.none_lost.work whole i (sym (is_on-switched_other s.enabled a i.analyzer false other) ∙ on) (or_from (has_item i s.queue) (is_taken i s.taken) queued parts.1);
+    base = λ whole i on none.
         let other = other_on s.enabled a i.analyzer on in
-        h.none_lost.base whole i below (sym (is_on-switched_other s.enabled a i.analyzer false other) ∙ on) (sym (still_kept i a s.current other) ∙ none);
+        h.none_lost.base whole i (sym (is_on-switched_other s.enabled a i.analyzer false other) ∙ on) (sym (still_kept i a s.current other) ∙ none);
   };
 }
 
@@ -148,11 +143,11 @@ take_keeps s n h =
     record {
       valid = record { base = h.valid.base; work = h.valid.work; past = h.valid.past; undone = h.valid.undone; taken = valid_push s.taken job h.valid.taken h.valid.work };
       none_lost = record {
-        work = λ whole i below on none.
+        work = λ whole i on none.
             let parts = or_parts (has_item i (drop n s.queue)) (is_taken i (s.taken ++ job ∷ [])) none in
             let jobs = or_parts (is_taken i s.taken) (has_item i (take n s.queue) || false) (sym (is_taken-append i s.taken (job ∷ [])) ∙ parts.1) in
             let taken = or_parts (has_item i (take n s.queue)) false jobs.1 in
-            h.none_lost.work whole i below on (or_from (has_item i s.queue) (is_taken i s.taken) (has_item-parted i n s.queue ∙ or_from (has_item i (take n s.queue)) (has_item i (drop n s.queue)) taken.0 parts.0) jobs.0);
+            h.none_lost.work whole i on (or_from (has_item i s.queue) (is_taken i s.taken) (has_item-parted i n s.queue ∙ or_from (has_item i (take n s.queue)) (has_item i (drop n s.queue)) taken.0 parts.0) jobs.0);
         base = h.none_lost.base;
       };
     }

@@ -43,14 +43,14 @@ on_listed E a (x ∷ all) h = by (is_on E x) refl h (on_listed E a all)
     ]
     by false off h later = later h
 
-none_left : (E : Enabled) (S : Program) (i : Item) → (i.at < 2 ^ 32 → is_on E i.analyzer ≡ true → rule S i ≡ []) → (nat_lt i.at (2 ^ 32) && (is_enabled (enabled_analyzers E) i && is_unsettled S i)) ≡ false
+none_left : (E : Enabled) (S : Program) (i : Item) → (is_on E i.analyzer ≡ true → rule S i ≡ []) → (nat_lt i.at (2 ^ 32) && (is_enabled (enabled_analyzers E) i && is_unsettled S i)) ≡ false
 none_left E S i settled = false_from_ne_true _ (λ all.
     let first = and_parts (nat_lt i.at (2 ^ 32)) (is_enabled (enabled_analyzers E) i && is_unsettled S i) all in
     let second = and_parts (is_enabled (enabled_analyzers E) i) (is_unsettled S i) first.1 in
-    let none = settled (ltb-true i.at (2 ^ 32) first.0) (on_listed E i.analyzer analyzers second.0) in
+    let none = settled (on_listed E i.analyzer analyzers second.0) in
     false≢true (sym (ap (λ (cs : List Change). not (length cs == 0)) none) ∙ second.1))
 
-closed_where : ListingLaw → (E : Enabled) (S : Program) → ((i : Item) → i.at < 2 ^ 32 → is_on E i.analyzer ≡ true → rule S i ≡ []) → IsClosed S (enabled_analyzers E)
+closed_where : ListingLaw → (E : Enabled) (S : Program) → ((i : Item) → is_on E i.analyzer ≡ true → rule S i ≡ []) → IsClosed S (enabled_analyzers E)
 closed_where listing E S settled = sym ((listing (2 ^ 32) (λ i. is_enabled (enabled_analyzers E) i && is_unsettled S i)).only [] (record { in_order = refl; members = λ i. sym (none_left E S i (settled i)) }))
 
 -- ---- nothing is left to do
@@ -67,11 +67,11 @@ none_taken [] i h = refl
 none_taken (job ∷ jobs) i h = let e = eqb-true (length (job ∷ jobs)) 0 h in absurd (omega (arith, e))
 
 quiet_is_closed : ListingLaw → (s : State) → Sound s → s.whole ≡ true → is_quiet s ≡ true → IsClosed (base s) (enabled_analyzers s.enabled)
-quiet_is_closed listing s h whole quiet = closed_where listing s.enabled (base s) (λ i below on.
+quiet_is_closed listing s h whole quiet = closed_where listing s.enabled (base s) (λ i on.
     let parts = and_parts (not (is_open s.current)) (length s.queue == 0 && length s.taken == 0) quiet in
     let lists = and_parts (length s.queue == 0) (length s.taken == 0) parts.1 in
     ap (λ (S : Program). rule S i) (sym (base_is_work (base s) s.current (not-true (is_open s.current) parts.0)))
-    ∙ h.none_lost.work whole i below on (or_from (has_item i s.queue) (is_taken i s.taken) (none_queued s.queue i lists.0) (none_taken s.taken i lists.1)))
+    ∙ h.none_lost.work whole i on (or_from (has_item i s.queue) (is_taken i s.taken) (none_queued s.queue i lists.0) (none_taken s.taken i lists.1)))
 
 -- ---- where an entry names a Settled step
 named : (s : State) (n : ℕ) → settled_step s ≡ Some n → settles s ≡ true

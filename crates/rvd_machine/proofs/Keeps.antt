@@ -17,13 +17,14 @@ use Rattle.rvd_trans.specs.Entries.{count_of, without_all}
 use Rattle.rvd_undo.specs.History.{History, undo_to, redo_to}
 use Rattle.rvd_edit.specs.Edits.{edit_of}
 use Rattle.rvd_queue.specs.Sets.{with_all}
+use Rattle.rvd_wake.specs.Laws.{LeadAll}
 use Rattle.rvd_machine.specs.Enabled.{is_on, woken_into}
 use Rattle.rvd_machine.specs.State.{State, Open, base, work, work_in, is_taken, taken_items, waits, without}
 use Rattle.rvd_machine.specs.Moves.{stepped, commit, rollback, begun_in, begun, changed_in, edited_by, edited, entry_ended, commit_step, ended_open, ended_in, entries_aborted, closed_open, closed_in, closed, undone, redone, settles, settled}
 use Rattle.rvd_machine.specs.Steps.{counted}
 use Rattle.rvd_machine.specs.Sound.{Sound, AreAllValid, AreValid, IsNoneLost, IsSettledBut, is_kept}
 use Rattle.rvd_machine.proofs.Members.{has_item-with_all, is_taken-items, not_woken}
-use Rattle.rvd_machine.proofs.Leads.{Laws, LeadAll, wake_all, valid_all}
+use Rattle.rvd_machine.proofs.Leads.{Laws, edits_lead, wake_all, valid_all}
 
 pub valid_take : (n : ℕ) (programs : List Program) → AreValid programs → AreValid (take n programs)
 valid_take zero programs v = tt
@@ -36,9 +37,9 @@ begin_keeps_in s a text None h = record {
   valid = record { base = h.valid.base; work = h.valid.base; past = h.valid.past; undone = h.valid.undone; taken = h.valid.taken };
   none_lost = record {
     work = h.none_lost.work;
-    base = λ whole i below on none.
+    base = λ whole i on none.
         let parts = or_parts (has_item i (taken_items s.taken)) (has_item i s.queue) (sym (has_item-with_all i (taken_items s.taken) s.queue) ∙ none) in
-        h.none_lost.work whole i below on (or_from (has_item i s.queue) (is_taken i s.taken) parts.1 (sym (is_taken-items i s.taken) ∙ parts.0));
+        h.none_lost.work whole i on (or_from (has_item i s.queue) (is_taken i s.taken) parts.1 (sym (is_taken-items i s.taken) ∙ parts.0));
   };
 }
 begin_keeps_in s a text (Some o) h = record {
@@ -55,17 +56,17 @@ changed_keeps L s cs None lead h = h
 changed_keeps L s cs (Some o) lead h = record {
   valid = record { base = h.valid.base; work = valid_all cs o.work h.valid.work lead; past = h.valid.past; undone = h.valid.undone; taken = h.valid.taken };
   none_lost = record {
-    work = λ whole i below on none.
+    work = λ whole i on none.
         let parts = or_parts (has_item i (woken_into s.enabled o.work cs s.queue)) (is_taken i s.taken) none in
-        let apart = not_woken L.listing i s.enabled below on cs o.work s.queue parts.0 in
-        wake_all L cs o.work i below lead apart.0 (h.none_lost.work whole i below on (or_from (has_item i s.queue) (is_taken i s.taken) apart.1 parts.1));
+        let apart = not_woken i s.enabled on cs o.work s.queue parts.0 in
+        wake_all L.analysis cs o.work i lead apart.0 (h.none_lost.work whole i on (or_from (has_item i s.queue) (is_taken i s.taken) apart.1 parts.1));
     base = h.none_lost.base;
   };
 }
 
 edited_keeps : Laws → (s : State) (e : Edit) (r : Result (List Change) EditRefusal) → is_edit e ≡ true → edit_of (work s) e ≡ r → Sound s → Sound (edited_by s r)
 edited_keeps L s e (Err r) legal is h = h
-edited_keeps L s e (Ok cs) legal is h = changed_keeps L s cs s.current (L.edits (work s) e cs h.valid.work legal is) h
+edited_keeps L s e (Ok cs) legal is h = changed_keeps L s cs s.current (edits_lead (work s) cs h.valid.work (L.edits_fit (work s) e cs h.valid.work legal is) (L.no_analysis (work s) e cs is)) h
 
 pub edit_keeps : Laws → (s : State) (e : Edit) → is_edit e ≡ true → Sound s → Sound (edited s e)
 edit_keeps L s e legal h = edited_keeps L s e (edit_of (work s) e) legal refl h
@@ -74,17 +75,17 @@ edit_keeps L s e legal h = edited_keeps L s e (edit_of (work s) e) legal refl h
 commit_keeps : (s : State) (o : Open) (x : Step) → Sound (record s { current = Some o }) → Sound (commit s o.work x)
 commit_keeps s o x h = record {
   valid = record { base = h.valid.work; work = h.valid.work; past = valid_take 50 (base s ∷ s.history.past) (h.valid.base, h.valid.past); undone = tt; taken = h.valid.taken };
-  none_lost = record { work = h.none_lost.work; base = λ whole i below on none. absurd (true≢false none) };
+  none_lost = record { work = h.none_lost.work; base = λ whole i on none. absurd (true≢false none) };
 }
 
 rollback_keeps : (s : State) (o : Open) → Sound (record s { current = Some o }) → Sound (rollback s o)
 rollback_keeps s o h = record {
   valid = record { base = h.valid.base; work = h.valid.base; past = h.valid.past; undone = h.valid.undone; taken = h.valid.taken };
   none_lost = record {
-    work = λ whole i below on none.
+    work = λ whole i on none.
         let parts = or_parts (has_item i (with_all o.kept s.queue)) (is_taken i s.taken) none in
-        h.none_lost.base whole i below on (or_parts (has_item i o.kept) (has_item i s.queue) (sym (has_item-with_all i o.kept s.queue) ∙ parts.0)).0;
-    base = λ whole i below on none. absurd (true≢false none);
+        h.none_lost.base whole i on (or_parts (has_item i o.kept) (has_item i s.queue) (sym (has_item-with_all i o.kept s.queue) ∙ parts.0)).0;
+    base = λ whole i on none. absurd (true≢false none);
   };
 }
 

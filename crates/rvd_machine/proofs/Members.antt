@@ -1,5 +1,5 @@
 -- Which items are in a set after it gains or loses some, and in the jobs that are taken. Use `has_item-with_all`,
--- `has_item-filter`, `not_listed`, `not_woken` and `is_taken-items`.
+-- `has_item-filter`, `not_woken`, `no_candidate` and `is_taken-items`.
 use Rattle.std.proofs.Common.{◌≡◌, ℕ, ◌^◌, ◌<◌, Bool, true, false, cond, not, ◌&&◌, ◌||◌, nat_lt, List, [], ◌∷◌, ◌++◌, take, drop, filter, Option, Some, None, refl, sym, ap, ◌∙◌, subst}
 use Rattle.std.specs.Prelude.{unwrap_or, ◌==◌}
 use Rattle.std.specs.Ordering.{match_ordering}
@@ -16,12 +16,13 @@ use Rattle.rvd_ask.specs.declared.asks.Analyzer.{Analyzer}
 use Rattle.rvd_ask.specs.declared.asks.Analyzer.TheVariants.{Flow, Refs, Funcs, Body, Strings}
 use Rattle.rvd_ask.specs.declared.asks.Item.{Item}
 use Rattle.rvd_ask.specs.Order.{item_cmp, same_item}
-use Rattle.rvd_ask.specs.Unsettled.{has_item, items_where, same_analyzer, woken, ListingLaw}
-use Rattle.rvd_ask.specs.Wake.{any_wakes, wakes}
+use Rattle.rvd_ask.specs.Unsettled.{candidates, has_item, same_analyzer, woken, ListingLaw}
+use Rattle.rvd_ask.specs.Wake.{is_candidate}
 use Rattle.rvd_ask.proofs.ItemOrder.{items_total, items_exact, same_item-true}
 use Rattle.rvd_queue.specs.Sets.{with, with_all}
-use Rattle.rvd_machine.specs.Enabled.{Enabled, is_on, switched, only_on, woken_into}
+use Rattle.rvd_machine.specs.Enabled.{Enabled, all_candidates, is_on, switched, only_on, woken_into}
 use Rattle.rvd_machine.specs.State.{Job, is_taken, taken_items, job_of, other_jobs}
+use Rattle.rvd_machine.proofs.Leads.{AreAsleep}
 
 or_assoc : (a b c : Bool) → (a || (b || c)) ≡ ((a || b) || c)
 or_assoc true b c = refl
@@ -71,20 +72,26 @@ has_item-filter j test items passes =
     and_true true = refl
     and_true false = refl
 
--- ---- listings
-pub not_listed : ListingLaw → (test : Item → Bool) (i : Item) → i.at < 2 ^ 32 → has_item i (items_where test) ≡ false → test i ≡ false
-not_listed listing test i below none =
-    ap (λ b. b && test i) (sym (lt-ltb i.at (2 ^ 32) below)) ∙ sym ((listing (2 ^ 32) test).lists.members i) ∙ none
-
 -- ---- what changes wake
-pub not_woken : ListingLaw → (i : Item) (E : Enabled) → i.at < 2 ^ 32 → is_on E i.analyzer ≡ true → (cs : List Change) (S : Program) (queue : List Item) → has_item i (woken_into E S cs queue) ≡ false → (any_wakes S cs i ≡ false) × (has_item i queue ≡ false)
-not_woken listing i E below on [] S queue none = (refl, none)
-not_woken listing i E below on (c ∷ cs) S queue none =
+pub not_woken : (i : Item) (E : Enabled) → is_on E i.analyzer ≡ true → (cs : List Change) (S : Program) (queue : List Item) → has_item i (woken_into E S cs queue) ≡ false → AreAsleep S cs i × (has_item i queue ≡ false)
+not_woken i E on [] S queue none = (tt, none)
+not_woken i E on (c ∷ cs) S queue none =
     let items = woken (applied S c) c in
-    let later = not_woken listing i E below on cs (applied S c) (with_all (only_on E items) queue) none in
+    let later = not_woken i E on cs (applied S c) (with_all (only_on E items) queue) none in
     let parts = or_parts (has_item i (only_on E items)) (has_item i queue) (sym (has_item-with_all i (only_on E items) queue) ∙ later.1) in
-    let asleep = not_listed listing (wakes (applied S c) c) i below (sym (has_item-filter i (λ (j : Item). is_on E j.analyzer) items on) ∙ parts.0) in
-    (or_from (wakes (applied S c) c i) (any_wakes (applied S c) cs i) asleep later.0, parts.1)
+    ((sym (has_item-filter i (λ (j : Item). is_on E j.analyzer) items on) ∙ parts.0, later.0), parts.1)
+
+-- ---- candidates
+unlisted : (b : Bool) (on same passes : Bool) → on ≡ true → (b && (on && passes)) ≡ false → (b && (same && passes)) ≡ false
+unlisted false on same passes h none = refl
+unlisted true on true passes h none = ap (λ x. x && passes) (sym h) ∙ none
+unlisted true on false passes h none = refl
+
+pub no_candidate : ListingLaw → (E : Enabled) (S : Program) (i : Item) → is_on E i.analyzer ≡ true → has_item i (all_candidates E S) ≡ false → has_item i (candidates S i.analyzer) ≡ false
+no_candidate listing E S i on none =
+    (listing (2 ^ 32) (λ j. same_analyzer i.analyzer j.analyzer && is_candidate S j)).lists.members i
+    ∙ unlisted (nat_lt i.at (2 ^ 32)) (is_on E i.analyzer) (same_analyzer i.analyzer i.analyzer) (is_candidate S i) on
+    (sym ((listing (2 ^ 32) (λ j. is_on E j.analyzer && is_candidate S j)).lists.members i) ∙ none)
 
 -- ---- the switch of one analyzer, and of the others
 pub is_on-switched_same : (E : Enabled) (a : Analyzer) (on : Bool) → is_on (switched E a on) a ≡ on

@@ -4,10 +4,13 @@ use Rattle.std.proofs.lemmas.Bool.{or_parts, or_from, cond_both, false≢true, t
 use Rattle.rvd_fact.specs.declared.cells.Change.{Change}
 use Rattle.rvd_fact.specs.Program.{Program, applied_all}
 use Rattle.rvd_fact.specs.Valid.{IsValid}
+use Rattle.rvd_ask.specs.declared.asks.Analyzer.{Analyzer}
+use Rattle.rvd_ask.specs.declared.asks.Analyzer.TheVariants.{Flow, Refs, Funcs, Body, Strings}
 use Rattle.rvd_ask.specs.declared.asks.Item.{Item}
 use Rattle.rvd_ask.specs.Order.{same_item}
 use Rattle.rvd_ask.specs.Rules.{rule}
 use Rattle.rvd_ask.specs.Unsettled.{has_item}
+use Rattle.rvd_ask.specs.Wake.{item}
 use Rattle.rvd_ask.proofs.ItemOrder.{same_item-true}
 use Rattle.rvd_event.specs.declared.verdicts.Verdict.{Verdict}
 use Rattle.rvd_event.specs.declared.verdicts.Verdict.TheVariants.{Joined, Nothing, Off, Stale, Foreign}
@@ -15,6 +18,7 @@ use Rattle.rvd_event.specs.declared.steps.Step.TheVariants as step
 use Rattle.rvd_event.specs.declared.replies.Reply.{Reply}
 use Rattle.rvd_event.specs.declared.replies.Reply.TheVariants as reply
 use Rattle.rvd_queue.specs.Sets.{with}
+use Rattle.rvd_wake.specs.Laws.{AnalysisLaws}
 use Rattle.rvd_machine.specs.Enabled.{Enabled, is_on, woken_into}
 use Rattle.rvd_machine.specs.State.{State, Open, Job, base, work, work_in, is_taken, waits, job_of, other_jobs}
 use Rattle.rvd_machine.specs.Verdicts.{Batch, first_batch, is_body, returned, joined_by, judged, judged_all, IsVerdict, AreVerdicts}
@@ -23,14 +27,14 @@ use Rattle.rvd_machine.specs.Replies.{IsOfferReply}
 use Rattle.rvd_machine.specs.Steps.{is_refused, verdicts_in}
 use Rattle.rvd_machine.specs.Sound.{Sound, AreAllValid, AreValid, IsNoneLost, IsSettledBut, is_kept, programs_of}
 use Rattle.rvd_machine.proofs.Members.{has_item-with, not_taken, not_woken}
-use Rattle.rvd_machine.proofs.Leads.{Laws, LeadAll, wake_all, valid_all}
+use Rattle.rvd_machine.proofs.Leads.{Laws, wake_all, valid_all}
 use Rattle.rvd_machine.proofs.Keeps.{valid_take}
 
 -- what holds in the middle of an offer, of the working program that was S, with the items that are still to be judged
 record IsPartly (E : Enabled) (S : Program) (others : List Job) (b : Batch) (rest : List Item) (whole : Type 0) : Type 0 where
   valid : IsValid b.work
   same : b.joined ≡ false → b.work ≡ S
-  none_lost : whole → (i : Item) → i.at < 2 ^ 32 → is_on E i.analyzer ≡ true → has_item i b.queue ≡ false → is_taken i others ≡ false → has_item i rest ≡ false → rule b.work i ≡ []
+  none_lost : whole → (i : Item) → is_on E i.analyzer ≡ true → has_item i b.queue ≡ false → is_taken i others ≡ false → has_item i rest ≡ false → rule b.work i ≡ []
 
 -- what isn't in the queue after an item returned is another item, and wasn't before
 not_returned : (j i : Item) (queue : List Item) → is_body i.analyzer ≡ false → has_item j (returned i queue) ≡ false → (same_item j i ≡ false) × (has_item j queue ≡ false)
@@ -43,22 +47,30 @@ by_cases : (b : Bool) (X : Type 0) → (b ≡ true → X) → (b ≡ false → X
 by_cases true X so other = so refl
 by_cases false X so other = other refl
 
+-- a body item that joined is settled
+bodies_settle : AnalysisLaws → (S : Program) (a : Analyzer) (at : ℕ) → IsValid S → is_body a ≡ true → rule (applied_all S (rule S (item a at))) (item a at) ≡ []
+bodies_settle L S Flow at valid other = absurd (false≢true other)
+bodies_settle L S Refs at valid other = absurd (false≢true other)
+bodies_settle L S Funcs at valid other = absurd (false≢true other)
+bodies_settle L S Body at valid body = L.body_settled S at valid
+bodies_settle L S Strings at valid other = absurd (false≢true other)
+
 module _ (L : Laws) (E : Enabled) (S P : Program) (others : List Job) (whole : Type 0) where
   joined_keeps : (b : Batch) (i : Item) (items : List Item) → is_on E i.analyzer ≡ true → IsPartly E S others b (i ∷ items) whole → IsPartly E S others (joined_by E b i (rule b.work i)) items whole
   joined_keeps b i items on h =
       let cs = rule b.work i in
-      let lead = L.rules b.work i h.valid in
+      let lead = L.analysis.fits b.work i h.valid in
       let queue = woken_into E b.work cs b.queue in
       record {
         valid = valid_all cs b.work h.valid lead;
         same = λ none. absurd (true≢false none);
-        none_lost = λ w j below j_on j_queue j_out j_rest.
+        none_lost = λ w j j_on j_queue j_out j_rest.
             let still : has_item j queue ≡ false → same_item j i ≡ false → rule (applied_all b.work cs) j ≡ [] = λ j_q j_i.
-            (let apart = not_woken L.listing j E below j_on cs b.work b.queue j_q in
-            wake_all L cs b.work j below lead apart.0 (h.none_lost w j below j_on apart.1 j_out (or_from (same_item j i) (has_item j items) j_i j_rest))) in
+            (let apart = not_woken j E j_on cs b.work b.queue j_q in
+            wake_all L.analysis cs b.work j lead apart.0 (h.none_lost w j j_on apart.1 j_out (or_from (same_item j i) (has_item j items) j_i j_rest))) in
             by_cases (is_body i.analyzer) (rule (applied_all b.work cs) j ≡ [])
             (λ body. by_cases (same_item j i) (rule (applied_all b.work cs) j ≡ [])
-            (λ s. subst (λ (z : Item). rule (applied_all b.work cs) z ≡ []) (sym (same_item-true j i s)) (L.bodies b.work i h.valid body))
+            (λ s. subst (λ (z : Item). rule (applied_all b.work cs) z ≡ []) (sym (same_item-true j i s)) (bodies_settle L.analysis b.work i.analyzer i.at h.valid body))
             (λ s. still (not_returned_body j i queue body j_queue) s))
             (λ other. let far = not_returned j i queue other j_queue in still far.1 far.0);
       }
@@ -68,9 +80,9 @@ module _ (L : Laws) (E : Enabled) (S P : Program) (others : List Job) (whole : T
   let_go b i items done h = record {
     valid = h.valid;
     same = h.same;
-    none_lost = λ w j below j_on j_queue j_out j_rest. by_cases (same_item j i) (rule b.work j ≡ [])
+    none_lost = λ w j j_on j_queue j_out j_rest. by_cases (same_item j i) (rule b.work j ≡ [])
         (λ s. subst (λ (z : Item). rule b.work z ≡ []) (sym (same_item-true j i s)) (done (ap (λ (z : Item). is_on E z.analyzer) (sym (same_item-true j i s)) ∙ j_on)))
-        (λ s. h.none_lost w j below j_on j_queue j_out (or_from (same_item j i) (has_item j items) s j_rest));
+        (λ s. h.none_lost w j j_on j_queue j_out (or_from (same_item j i) (has_item j items) s j_rest));
   }
 
   -- an item that is stale or foreign returns
@@ -78,9 +90,9 @@ module _ (L : Laws) (E : Enabled) (S P : Program) (others : List Job) (whole : T
   back b i items h = record {
     valid = h.valid;
     same = h.same;
-    none_lost = λ w j below j_on j_queue j_out j_rest.
+    none_lost = λ w j j_on j_queue j_out j_rest.
         let far = or_parts (same_item j i) (has_item j b.queue) (sym (has_item-with j i b.queue) ∙ j_queue) in
-        h.none_lost w j below j_on far.1 j_out (or_from (same_item j i) (has_item j items) far.0 j_rest);
+        h.none_lost w j j_on far.1 j_out (or_from (same_item j i) (has_item j items) far.0 j_rest);
   }
 
   judged_keeps : (b : Batch) (i : Item) (items : List Item) (v : Verdict) → IsVerdict E P b i v → IsPartly E S others b (i ∷ items) whole → IsPartly E S others (judged E b i v) items whole
@@ -104,23 +116,23 @@ done_keeps s a b None v kept p = by_joined b.joined refl
     by_joined true e = record {
       valid = record { base = p.valid; work = p.valid; past = valid_take 50 (base s ∷ s.history.past) (v.base, v.past); undone = tt; taken = v.taken };
       none_lost = record {
-        work = λ whole i below on none. let parts = or_parts (has_item i b.queue) (is_taken i s.taken) none in p.none_lost whole i below on parts.0 parts.1 refl;
-        base = λ whole i below on none. absurd (true≢false none);
+        work = λ whole i on none. let parts = or_parts (has_item i b.queue) (is_taken i s.taken) none in p.none_lost whole i on parts.0 parts.1 refl;
+        base = λ whole i on none. absurd (true≢false none);
       };
     }
     by_joined false e = record {
       valid = record { base = v.base; work = v.base; past = v.past; undone = v.undone; taken = v.taken };
       none_lost = record {
-        work = λ whole i below on none.
+        work = λ whole i on none.
             let parts = or_parts (has_item i b.queue) (is_taken i s.taken) none in
-            ap (λ (T : Program). rule T i) (sym (p.same e)) ∙ p.none_lost whole i below on parts.0 parts.1 refl;
-        base = λ whole i below on none. absurd (true≢false none);
+            ap (λ (T : Program). rule T i) (sym (p.same e)) ∙ p.none_lost whole i on parts.0 parts.1 refl;
+        base = λ whole i on none. absurd (true≢false none);
       };
     }
 done_keeps s a b (Some o) v kept p = record {
   valid = record { base = v.base; work = p.valid; past = v.past; undone = v.undone; taken = v.taken };
   none_lost = record {
-    work = λ whole i below on none. let parts = or_parts (has_item i b.queue) (is_taken i s.taken) none in p.none_lost whole i below on parts.0 parts.1 refl;
+    work = λ whole i on none. let parts = or_parts (has_item i b.queue) (is_taken i s.taken) none in p.none_lost whole i on parts.0 parts.1 refl;
     base = kept;
   };
 }
@@ -138,7 +150,7 @@ job_keeps L s a ticket vs job found ok h =
     let first : IsPartly s.enabled (work s) others (first_batch s) job.items (s.whole ≡ true) = record {
       valid = h.valid.work;
       same = λ _. refl;
-      none_lost = λ whole i below on queue out rest. h.none_lost.work whole i below on (or_from (has_item i s.queue) (is_taken i s.taken) queue (not_taken i ticket s.taken job found out rest));
+      none_lost = λ whole i on queue out rest. h.none_lost.work whole i on (or_from (has_item i s.queue) (is_taken i s.taken) queue (not_taken i ticket s.taken job found out rest));
     } in
     done_keeps (record s { taken = others }) a (judged_all s.enabled (first_batch s) job.items vs) s.current
     (record { base = h.valid.base; work = h.valid.work; past = h.valid.past; undone = h.valid.undone; taken = valid_others ticket s.taken h.valid.taken })

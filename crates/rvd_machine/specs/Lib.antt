@@ -7,4 +7,3 @@ pub mod Exact
 pub mod Ranges
 pub mod Steps
 pub mod Sound
-pub mod RuleLaws

@@ -1,7 +1,7 @@
 -- No event is lost. Use `Sound` for what every state keeps that a legal journal leads to: its programs are valid, and while a
 -- whole analysis stands, whatever an enabled analyzer would change is queued, taken or kept. `AreClosed` says the same of
 -- the ends of analyses: nothing is left to change.
-use Rattle.std.specs.Prelude.{◌≡◌, ℕ, ◌^◌, ◌<◌, Bool, true, false, List, [], ◌∷◌, map, Option, Some, None, ◌⊎◌}
+use Rattle.std.specs.Prelude.{◌≡◌, ℕ, Bool, true, false, List, [], ◌∷◌, map, Option, Some, None, ◌⊎◌}
 use Rattle.rvd_fact.specs.Program.{Program}
 use Rattle.rvd_fact.specs.Valid.{IsValid}
 use Rattle.rvd_ask.specs.declared.asks.Item.{Item}
@@ -15,7 +15,7 @@ use Rattle.rvd_machine.specs.Steps.{Head, start_of, state, after, IsLegal}
 
 -- each item of an enabled analyzer that a test doesn't name is settled
 abbrev pub IsSettledBut : Enabled → Program → (Item → Bool) → Type 0
-IsSettledBut E S named = (i : Item) → i.at < 2 ^ 32 → is_on E i.analyzer ≡ true → named i ≡ false → rule S i ≡ []
+IsSettledBut E S named = (i : Item) → is_on E i.analyzer ≡ true → named i ≡ false → rule S i ≡ []
 
 -- whether an item is kept; where nothing is open there is nothing to keep
 abbrev pub is_kept : Option Open → Item → Bool

@@ -3,8 +3,8 @@
 //! The definitions stand in `specs/`: `Enabled` (which analyzers work, and which of their items join a queue), `State` (the
 //! state, at the start and what is asked of it), `Verdicts` (what becomes of the items of a job that is offered), `Moves`
 //! (what each event makes of the state), `Replies` (the first refusal in order, or else the reply), `Exact` (the one reply
-//! to an offer of given proposals), `Ranges` (what the types of a reply keep), and `Steps` (which entries are steps, which
-//! journals are legal, and the state that a journal leads to).
+//! to an offer of given proposals), `Ranges` (what the types of a reply keep), `Steps` (which entries are steps, which
+//! journals are legal, and the state that a journal leads to), and `Sound` (that no event is lost).
 //!
 //! Laws of all legal journals:
 //!
@@ -13,12 +13,12 @@
 //! * [`settled_is_closed`] says that where an analysis ends, no analyzer would change the committed program.
 #![tactic(auto)]
 
-ghost use Rattle.rvd_machine.specs.RuleLaws.{RuleLaws};
 ghost use Rattle.rvd_machine.specs.Sound.{LegalIsSound, SettledIsClosed};
 ghost use Rattle.rvd_machine.specs.Steps.{LegalIsBounded};
 
-use rvd_ask::{candidate_law, listing_law};
+use rvd_ask::listing_law;
 use rvd_edit::{edits_fit, edits_set_no_analysis};
+use rvd_wake::analysis_laws;
 
 /// In the state after a legal journal at most 64 entries are live and at most 16 sessions open, the journal's length is
 /// counted, and its numbers of entries of transactions and of tickets don't pass it. It has at most two steps for each
@@ -31,10 +31,10 @@ pub fn journals_are_bounded()
 /// analyzer whose rule has a change on the working program is queued or taken; and where a transaction is open, each whose
 /// rule has a change on the committed program is kept.
 pub fn no_event_is_lost()
-    ensures { RuleLaws → LegalIsSound }
+    ensures { LegalIsSound }
 {
+    analysis_laws();
     listing_law();
-    candidate_law();
     edits_fit();
     edits_set_no_analysis();
 }
@@ -42,10 +42,10 @@ pub fn no_event_is_lost()
 /// At each entry of a legal journal that names a Settled step, and at each that answers SettledAt, no enabled analyzer would
 /// change the committed program.
 pub fn settled_is_closed()
-    ensures { RuleLaws → SettledIsClosed }
+    ensures { SettledIsClosed }
 {
+    analysis_laws();
     listing_law();
-    candidate_law();
     edits_fit();
     edits_set_no_analysis();
 }
