@@ -9,3 +9,4 @@ pub mod Analyses
 pub mod Offers
 pub mod Whole
 mod Closed
+pub mod Exacts

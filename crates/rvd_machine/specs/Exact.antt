@@ -1,5 +1,6 @@
 -- The desk's own reply to an offer, where several would be legal: reads are compared with the working program in order, and
--- the first that differs decides. Use `IsExactReply` for an offer of given proposals; it is one of `IsReply`.
+-- the first that differs decides. Use `IsExactReply` for an offer of given proposals; `ExactIsLegal` says that it is one of
+-- `IsReply`.
 use Rattle.std.specs.Prelude.{◌≡◌, ℕ, suc, Bool, true, false, List, [], ◌∷◌, length, Option, Some, None, ◌⊎◌, if◌then◌else◌}
 use Rattle.std.specs.Option.{option_map}
 use Rattle.rvd_fact.specs.declared.cells.Change.{Change}
@@ -9,8 +10,9 @@ use Rattle.rvd_ask.specs.declared.asks.Ask.{Ask}
 use Rattle.rvd_ask.specs.declared.asks.Item.{Item}
 use Rattle.rvd_ask.specs.Answers.{ans, IsSame}
 use Rattle.rvd_ask.specs.Order.{same_item}
-use Rattle.rvd_ask.specs.Promise.{Proposed}
+use Rattle.rvd_ask.specs.Promise.{are_reads, Proposed}
 use Rattle.rvd_ask.specs.Rules.{rule}
+use Rattle.rvd_event.specs.declared.events.Event.TheVariants as event
 use Rattle.rvd_event.specs.declared.replies.Reply.{Reply}
 use Rattle.rvd_event.specs.declared.replies.Reply.TheVariants as reply
 use Rattle.rvd_event.specs.declared.replies.Refusal.TheVariants as refusal
@@ -19,6 +21,7 @@ use Rattle.rvd_event.specs.declared.verdicts.Verdict.TheVariants.{Joined, Nothin
 use Rattle.rvd_machine.specs.Enabled.{Enabled, is_on}
 use Rattle.rvd_machine.specs.State.{State, Job, job_of}
 use Rattle.rvd_machine.specs.Verdicts.{Batch, first_batch, judged}
+use Rattle.rvd_machine.specs.Replies.{IsReply}
 
 -- the first place where proposals differ from a job's items, or where one list ends before the other
 abbrev pub first_misfit : List Item → List Proposed → Option ℕ
@@ -77,3 +80,18 @@ IsExactIn s ticket proposals (Some job) r = IsFitReply s job proposals (first_mi
 
 abbrev pub IsExactReply : State → ℕ → List Proposed → Reply → Type 0
 IsExactReply s ticket proposals r = IsExactIn s ticket proposals (job_of ticket s.taken) r
+
+-- where each answer in the proposals' reads has the form of its ask, the one reply is a legal one, and no other is the one
+abbrev pub AreProposals : List Proposed → Type 0
+AreProposals [] = Unit {0}
+AreProposals (p ∷ proposals) = (are_reads p.reads ≡ true) × AreProposals proposals
+
+abbrev pub ExactIsLegal : Type 0
+ExactIsLegal =
+    (s : State) (actor ticket : ℕ) (proposals : List Proposed) (r : Reply) → AreProposals proposals → IsExactReply s ticket proposals r
+    → IsReply s actor (event.Offer ticket) r
+
+abbrev pub ExactIsOne : Type 0
+ExactIsOne =
+    (s : State) (ticket : ℕ) (proposals : List Proposed) (r q : Reply) → IsExactReply s ticket proposals r → IsExactReply s ticket proposals q
+    → r ≡ q

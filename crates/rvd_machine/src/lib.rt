@@ -11,8 +11,11 @@
 //! * [`journals_are_bounded`] bounds what a state has.
 //! * [`no_event_is_lost`] says that while a whole analysis stands, whatever an analyzer would change waits for it.
 //! * [`settled_is_closed`] says that where an analysis ends, no analyzer would change the committed program.
+//!
+//! [`exact_offers_are_legal`] is a law of the desk's own reply to an offer.
 #![tactic(auto)]
 
+ghost use Rattle.rvd_machine.specs.Exact.{ExactIsLegal, ExactIsOne};
 ghost use Rattle.rvd_machine.specs.Sound.{LegalIsSound, SettledIsClosed};
 ghost use Rattle.rvd_machine.specs.Steps.{LegalIsBounded};
 
@@ -49,3 +52,10 @@ pub fn settled_is_closed()
     edits_fit();
     edits_set_no_analysis();
 }
+
+/// The reply to an offer by the first read that differs is one that a legal journal may have, and it is the only one by that
+/// rule. The answers in the proposals' reads have the forms of their asks, as those of every proposal have.
+pub fn exact_offers_are_legal()
+    ensures legal { ExactIsLegal }
+    ensures one { ExactIsOne }
+{}
