@@ -10,3 +10,4 @@ pub mod Offers
 pub mod Whole
 mod Closed
 pub mod Exacts
+mod Readings

@@ -1,6 +1,6 @@
 -- Which entries are steps of the machine, which journals are legal, and the state that a journal leads to. Use `IsLegal` and
 -- `state` for what a run promises, and `base_at` for the program that a read of so many steps has.
-use Rattle.std.specs.Prelude.{◌≡◌, ℕ, ◌+◌, ◌*◌, ◌≤◌, Bool, true, false, ◌&&◌, ◌||◌, nat_lt, nat_le, List, [], ◌∷◌, length, if◌then◌else◌}
+use Rattle.std.specs.Prelude.{◌≡◌, ℕ, ◌+◌, ◌*◌, ◌≤◌, Bool, true, false, ◌&&◌, ◌||◌, nat_lt, nat_le, List, [], ◌∷◌, ◌++◌, length, if◌then◌else◌}
 use Rattle.rvd_fact.specs.Program.{Program}
 use Rattle.rvd_fact.specs.Valid.{IsValid}
 use Rattle.rvd_event.specs.declared.events.Event.{Event}
@@ -109,6 +109,10 @@ base_at_from n s (e ∷ es) = if nat_le n (length s.steps) then base s else base
 
 abbrev pub base_at : Head → List Entry → ℕ → Program
 base_at h J n = base_at_from n (start_of h) J
+
+-- the committed program after a part of a journal is that of its number of steps, however the journal goes on
+abbrev pub BaseIsAtSteps : Type 0
+BaseIsAtSteps = (h : Head) (J K : List Entry) → base_at h (J ++ K) (length (state h J).steps) ≡ base (state h J)
 
 -- the tickets of jobs rise from a number on, all below another, and each job has at most 64 items
 abbrev pub AreJobs : ℕ → ℕ → List Job → Type 0

@@ -11,13 +11,14 @@
 //! * [`journals_are_bounded`] bounds what a state has.
 //! * [`no_event_is_lost`] says that while a whole analysis stands, whatever an analyzer would change waits for it.
 //! * [`settled_is_closed`] says that where an analysis ends, no analyzer would change the committed program.
+//! * [`base_is_told_by_steps`] says which program a read of so many steps has.
 //!
 //! [`exact_offers_are_legal`] is a law of the desk's own reply to an offer.
 #![tactic(auto)]
 
 ghost use Rattle.rvd_machine.specs.Exact.{ExactIsLegal, ExactIsOne};
 ghost use Rattle.rvd_machine.specs.Sound.{LegalIsSound, SettledIsClosed};
-ghost use Rattle.rvd_machine.specs.Steps.{LegalIsBounded};
+ghost use Rattle.rvd_machine.specs.Steps.{BaseIsAtSteps, LegalIsBounded};
 
 use rvd_ask::listing_law;
 use rvd_edit::{edits_fit, edits_set_no_analysis};
@@ -52,6 +53,12 @@ pub fn settled_is_closed()
     edits_fit();
     edits_set_no_analysis();
 }
+
+/// The committed program after a part of a journal is that of its number of steps, however the journal goes on: a read tells
+/// its program by that number alone.
+pub fn base_is_told_by_steps()
+    ensures { BaseIsAtSteps }
+{}
 
 /// The reply to an offer by the first read that differs is one that a legal journal may have, and it is the only one by that
 /// rule. The answers in the proposals' reads have the forms of their asks, as those of every proposal have.
