@@ -1,5 +1,5 @@
 -- Each event of analysis but an offer keeps the state sound. Use `full_keeps`, `turn_keeps`, `cancel_keeps` and `take_keeps`.
-use Rattle.std.proofs.Common.{◌≡◌, ℕ, ◌^◌, ◌<◌, ◌+◌, Bool, true, false, cond, not, ◌||◌, ◌&&◌, List, [], ◌∷◌, ◌++◌, take, drop, Option, Some, None, refl, sym, ap, ◌∙◌, subst}
+use Rattle.std.proofs.Common.{◌≡◌, ℕ, Bool, true, false, not, ◌||◌, List, [], ◌∷◌, ◌++◌, take, drop, Option, Some, None, refl, sym, ap, ◌∙◌, subst}
 use Rattle.std.proofs.lemmas.Bool.{eqb-true, or_parts, or_from, false≢true, true≢false}
 use Rattle.rvd_fact.specs.Program.{Program}
 use Rattle.rvd_fact.specs.Valid.{IsValid}
@@ -11,9 +11,9 @@ use Rattle.rvd_ask.specs.Unsettled.{has_item, candidates, same_analyzer}
 use Rattle.rvd_ask.proofs.ItemOrder.{same_analyzer as one_analyzer}
 use Rattle.rvd_queue.specs.Sets.{with_all, without_analyzer}
 use Rattle.rvd_machine.specs.Enabled.{Enabled, is_on, switched, all_candidates}
-use Rattle.rvd_machine.specs.State.{State, Open, Job, base, work, work_in, is_taken, waits}
-use Rattle.rvd_machine.specs.Moves.{kept_with, gained, filled, turned_on, kept_without, turned_off, turned, kept_none, cancelled, taken_by}
-use Rattle.rvd_machine.specs.Sound.{Sound, AreAllValid, AreValid, IsNoneLost, IsSettledBut, is_kept, programs_of}
+use Rattle.rvd_machine.specs.State.{State, Open, Job, base, work, work_in, is_taken}
+use Rattle.rvd_machine.specs.Moves.{kept_with, filled, turned_on, kept_without, turned_off, turned, kept_none, cancelled, taken_by}
+use Rattle.rvd_machine.specs.Sound.{Sound, AreAllValid, AreValid, is_kept, programs_of}
 use Rattle.rvd_machine.proofs.Members.{has_item-with_all, has_item-filter, has_item-parted, no_candidate, is_on-switched_same, is_on-switched_other, is_taken-append}
 use Rattle.rvd_machine.proofs.Leads.{Laws}
 

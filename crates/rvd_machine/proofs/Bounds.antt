@@ -1,10 +1,9 @@
 -- What is bounded in the state after a legal journal. Use `legal_is_bounded`.
-use Rattle.std.proofs.Common.{◌≡◌, ℕ, zero, suc, ◌+◌, ◌*◌, ◌≤◌, ◌<◌, Bool, true, false, cond, ◌&&◌, ◌||◌, not, ◌==◌, nat_le, nat_lt, List, [], ◌∷◌, ◌++◌, length, filter, take, Option, Some, None, Result, Ok, Err, refl, sym, ap, ◌∙◌, subst, arith}
+use Rattle.std.proofs.Common.{◌≡◌, ℕ, zero, suc, ◌+◌, ◌*◌, ◌≤◌, ◌<◌, Bool, true, false, cond, ◌&&◌, not, ◌==◌, nat_le, nat_lt, List, [], ◌∷◌, ◌++◌, length, filter, take, Option, Some, None, Result, Ok, Err, refl, sym, ap, ◌∙◌, subst, arith}
 use Rattle.std.specs.Option.{MatchOption}
 use Rattle.std.proofs.lemmas.Bool.{cond_both, leb-false}
 use Rattle.std.proofs.lemmas.List.{length-append, length-take}
 use Rattle.rvd_fact.specs.declared.cells.Change.{Change}
-use Rattle.rvd_fact.specs.Program.{Program}
 use Rattle.rvd_ask.specs.declared.asks.Analyzer.{Analyzer}
 use Rattle.rvd_ask.specs.declared.asks.Item.{Item}
 use Rattle.rvd_ask.specs.Unsettled.{candidates}
@@ -14,7 +13,6 @@ use Rattle.rvd_event.specs.declared.events.Event.TheVariants as event
 use Rattle.rvd_event.specs.declared.replies.Reply.{Reply}
 use Rattle.rvd_event.specs.declared.replies.Refusal.{Refusal}
 use Rattle.rvd_event.specs.declared.replies.Refusal.TheVariants as refusal
-use Rattle.rvd_event.specs.declared.steps.Step.{Step}
 use Rattle.rvd_event.specs.declared.steps.Step.TheVariants as step
 use Rattle.rvd_event.specs.declared.verdicts.Verdict.{Verdict}
 use Rattle.rvd_trans.specs.declared.entries.Entry.{Entry as LiveEntry}
@@ -24,7 +22,7 @@ use Rattle.rvd_edit.specs.Edits.{edit_of}
 use Rattle.rvd_machine.specs.Enabled.{all_candidates}
 use Rattle.rvd_machine.specs.State.{State, Open, Job, base, work, lives, lives_in, is_session, without, up_to, job_of, other_jobs}
 use Rattle.rvd_machine.specs.Verdicts.{Batch, first_batch, judged_all}
-use Rattle.rvd_machine.specs.Moves.{move, changed_in, edited_by, begun_in, ended_in, ended_open, entry_ended, closed_in, entries_aborted, kept_with, kept_without, kept_none, turned, commit, commit_step, rollback, offered_in, offered_job, analysis_text, settled, settles}
+use Rattle.rvd_machine.specs.Moves.{move, changed_in, edited_by, begun_in, ended_in, ended_open, entry_ended, closed_in, entries_aborted, kept_with, kept_without, kept_none, commit, commit_step, rollback, offered_in, offered_job, analysis_text, settled, settles}
 use Rattle.rvd_machine.specs.Replies.{refused, refused_if, IsReply}
 use Rattle.rvd_machine.specs.Steps.{Head, start_of, state_from, state, after, moved, counted, is_refused, verdicts_in, IsStep, AreSteps, IsLegal, AreJobs, IsBounded}
 use Rattle.rvd_machine.proofs.Jobs.{jobs-none, jobs-others, jobs-push}

@@ -1,12 +1,11 @@
 -- Where nothing is open, queued or taken while a whole analysis stands, no enabled analyzer would change the committed
 -- program. Use `settled_is_closed`.
-use Rattle.std.proofs.Common.{◌≡◌, ℕ, ◌^◌, ◌<◌, ◌+◌, Bool, true, false, cond, not, ◌&&◌, ◌||◌, ◌==◌, nat_lt, List, [], ◌∷◌, ◌++◌, length, filter, take, Option, Some, None, Result, Ok, Err, refl, sym, ap, ◌∙◌, subst, inl, inr, ◌⊎◌, arith}
+use Rattle.std.proofs.Common.{◌≡◌, ℕ, ◌^◌, ◌+◌, Bool, true, false, cond, not, ◌&&◌, ◌||◌, ◌==◌, nat_lt, List, [], ◌∷◌, ◌++◌, length, filter, take, Option, Some, None, Result, Ok, Err, refl, sym, ap, ◌∙◌, inl, inr, arith}
 use Rattle.std.specs.List.{list_any}
-use Rattle.std.proofs.lemmas.Bool.{and_parts, both_ways, or_cases, or_parts, false_from_ne_true, or_from, cond_both, eqb-true, false≢true, true≢false, lt-ltb, ltb-true, not-true, not-false}
+use Rattle.std.proofs.lemmas.Bool.{and_parts, both_ways, or_cases, or_parts, false_from_ne_true, or_from, cond_both, eqb-true, false≢true, true≢false, not-true, not-false}
 use Rattle.rvd_fact.specs.declared.cells.Change.{Change}
 use Rattle.rvd_fact.specs.Program.{Program}
 use Rattle.rvd_ask.specs.declared.asks.Analyzer.{Analyzer}
-use Rattle.rvd_ask.specs.declared.asks.Analyzer.TheVariants.{Flow, Refs, Funcs, Body, Strings}
 use Rattle.rvd_ask.specs.declared.asks.Item.{Item}
 use Rattle.rvd_ask.specs.Rules.{rule}
 use Rattle.rvd_ask.specs.Order.{priority}
@@ -22,10 +21,10 @@ use Rattle.rvd_event.specs.declared.steps.Step.TheVariants as step
 use Rattle.rvd_journal.specs.declared.entries.Entry.{Entry}
 use Rattle.rvd_edit.specs.Edits.{edit_of}
 use Rattle.rvd_machine.specs.Enabled.{Enabled, is_on, enabled_analyzers}
-use Rattle.rvd_machine.specs.State.{State, Open, Job, base, work, work_in, lives_of, is_open, is_taken, is_quiet, waits, job_of}
+use Rattle.rvd_machine.specs.State.{State, Open, Job, base, work, work_in, lives_of, is_open, is_taken, is_quiet, job_of}
 use Rattle.rvd_machine.specs.Moves.{entry_ended, settled, settled_step, settles}
-use Rattle.rvd_machine.specs.Replies.{answered, edit_reply, end_reply, end_reply_open, granted, is_not_yet, last_settled, next_step, refused, take_reply, takes_none, wait_reply, IsReply, IsOfferReply}
-use Rattle.rvd_machine.specs.Steps.{counted, moved, after, is_refused, IsStep, AreSteps, Head, start_of, IsLegal}
+use Rattle.rvd_machine.specs.Replies.{answered, edit_reply, end_reply, end_reply_open, granted, is_not_yet, last_settled, next_step, refused, take_reply, takes_none, IsReply, IsOfferReply}
+use Rattle.rvd_machine.specs.Steps.{counted, moved, after, is_refused, IsStep, AreSteps, start_of}
 use Rattle.rvd_machine.specs.Sound.{Sound, IsClosedAt, AreClosed, SettledIsClosed}
 use Rattle.rvd_machine.proofs.Leads.{Laws}
 use Rattle.rvd_machine.proofs.Replied.{none-some, some_is}

@@ -1,6 +1,5 @@
 -- The desk's own reply to an offer is legal, and there is one. Use `exact_is_legal` and `exact_is_one`.
-use Rattle.std.proofs.Common.{◌≡◌, ℕ, zero, suc, ◌+◌, ◌<◌, ◌≤◌, Bool, true, false, cond, ◌&&◌, List, [], ◌∷◌, length, Option, Some, None, refl, sym, ap, ◌∙◌, subst, inl, inr, ◌⊎◌, arith}
-use Rattle.std.specs.List.{list_all}
+use Rattle.std.proofs.Common.{◌≡◌, ℕ, suc, ◌≤◌, Bool, true, false, cond, List, [], ◌∷◌, length, Option, Some, None, refl, sym, ap, ◌∙◌, subst, inl, inr, arith}
 use Rattle.std.specs.Option.{option_map}
 use Rattle.std.proofs.lemmas.Bool.{and_parts}
 use Rattle.rvd_fact.specs.declared.cells.Change.{Change}
@@ -16,14 +15,12 @@ use Rattle.rvd_ask.specs.Rules.{rule}
 use Rattle.rvd_ask.proofs.ItemOrder.{same_item-true}
 use Rattle.rvd_event.specs.declared.replies.Reply.{Reply}
 use Rattle.rvd_event.specs.declared.replies.Reply.TheVariants as reply
-use Rattle.rvd_event.specs.declared.replies.Refusal.TheVariants as refusal
 use Rattle.rvd_event.specs.declared.verdicts.Verdict.{Verdict}
-use Rattle.rvd_event.specs.declared.verdicts.Verdict.TheVariants.{Joined, Nothing, Off, Stale, Foreign}
 use Rattle.rvd_machine.specs.Enabled.{Enabled, is_on}
 use Rattle.rvd_machine.specs.State.{State, Job, job_of}
 use Rattle.rvd_machine.specs.Verdicts.{Batch, first_batch, judged, IsVerdict, AreVerdicts}
 use Rattle.rvd_machine.specs.Replies.{IsOfferReply, IsJobReply}
-use Rattle.rvd_machine.specs.Exact.{first_misfit, IsFirstDiffering, verdict_by, IsVerdictAt, IsVerdictBy, IsVerdictOn, IsVerdictIf, IsExactVerdict, AreExactVerdicts, IsFitReply, IsExactIn, IsExactReply, AreProposals, ExactIsLegal, ExactIsOne}
+use Rattle.rvd_machine.specs.Exact.{first_misfit, IsFirstDiffering, verdict_by, IsVerdictAt, IsVerdictBy, IsVerdictIf, AreExactVerdicts, IsFitReply, IsExactIn, AreProposals, ExactIsLegal, ExactIsOne}
 use Rattle.rvd_machine.proofs.Replied.{none-some, some_is}
 
 -- ---- a verdict on one proposal is legal

@@ -1,5 +1,5 @@
 -- The jobs that are taken: their tickets rise, and each has few items. Use `jobs-push`, `jobs-others` and `jobs-none`.
-use Rattle.std.proofs.Common.{◌≡◌, ℕ, suc, ◌+◌, ◌≤◌, Bool, true, false, cond, ◌==◌, List, [], ◌∷◌, ◌++◌, length, refl, arith}
+use Rattle.std.proofs.Common.{ℕ, ◌+◌, ◌≤◌, ◌==◌, List, [], ◌∷◌, ◌++◌, length, arith}
 use Rattle.std.proofs.lemmas.Bool.{cond_both}
 use Rattle.rvd_machine.specs.State.{Job, other_jobs}
 use Rattle.rvd_machine.specs.Steps.{AreJobs}

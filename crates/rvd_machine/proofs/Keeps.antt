@@ -1,28 +1,26 @@
 -- Each event but those of analysis keeps the state sound. Use `begin_keeps`, `edit_keeps`, `end_keeps`, `close_keeps`,
 -- `undo_keeps` and `redo_keeps`, and `settled_keeps` for what comes last.
-use Rattle.std.proofs.Common.{◌≡◌, ℕ, ◌^◌, ◌<◌, zero, suc, ◌+◌, Bool, true, false, cond, ◌||◌, ◌&&◌, nat_lt, ◌==◌, List, [], ◌∷◌, ◌++◌, length, take, Option, Some, None, Result, Ok, Err, refl, sym, ap, ◌∙◌, subst}
+use Rattle.std.proofs.Common.{◌≡◌, ℕ, zero, suc, ◌+◌, Bool, true, false, cond, ◌&&◌, nat_lt, ◌==◌, List, [], ◌∷◌, ◌++◌, length, take, Option, Some, None, Result, Ok, Err, refl, sym, ◌∙◌}
 use Rattle.std.proofs.lemmas.Bool.{cond_both, or_parts, or_from, false≢true, true≢false}
 use Rattle.rvd_fact.specs.declared.cells.Change.{Change}
-use Rattle.rvd_fact.specs.Program.{Program, applied_all}
+use Rattle.rvd_fact.specs.Program.{Program}
 use Rattle.rvd_fact.specs.Valid.{IsValid}
-use Rattle.rvd_ask.specs.declared.asks.Item.{Item}
-use Rattle.rvd_ask.specs.Rules.{rule}
 use Rattle.rvd_ask.specs.Unsettled.{has_item}
 use Rattle.rvd_event.specs.declared.edits.Edit.{Edit}
 use Rattle.rvd_event.specs.declared.edits.EditRefusal.{EditRefusal}
 use Rattle.rvd_event.specs.Edits.{is_edit}
 use Rattle.rvd_event.specs.declared.steps.Step.{Step}
 use Rattle.rvd_event.specs.declared.steps.Step.TheVariants as step
-use Rattle.rvd_trans.specs.Entries.{count_of, without_all}
+use Rattle.rvd_trans.specs.Entries.{count_of}
 use Rattle.rvd_undo.specs.History.{History, undo_to, redo_to}
 use Rattle.rvd_edit.specs.Edits.{edit_of}
 use Rattle.rvd_queue.specs.Sets.{with_all}
 use Rattle.rvd_wake.specs.Laws.{LeadAll}
-use Rattle.rvd_machine.specs.Enabled.{is_on, woken_into}
-use Rattle.rvd_machine.specs.State.{State, Open, base, work, work_in, is_taken, taken_items, waits, without}
+use Rattle.rvd_machine.specs.Enabled.{woken_into}
+use Rattle.rvd_machine.specs.State.{State, Open, base, work, work_in, is_taken, taken_items, without}
 use Rattle.rvd_machine.specs.Moves.{stepped, commit, rollback, begun_in, begun, changed_in, edited_by, edited, entry_ended, commit_step, ended_open, ended_in, entries_aborted, closed_open, closed_in, closed, undone, redone, settles, settled}
 use Rattle.rvd_machine.specs.Steps.{counted}
-use Rattle.rvd_machine.specs.Sound.{Sound, AreAllValid, AreValid, IsNoneLost, IsSettledBut, is_kept}
+use Rattle.rvd_machine.specs.Sound.{Sound, AreAllValid, AreValid}
 use Rattle.rvd_machine.proofs.Members.{has_item-with_all, is_taken-items, not_woken}
 use Rattle.rvd_machine.proofs.Leads.{Laws, edits_lead, wake_all, valid_all}
 

@@ -1,6 +1,6 @@
 -- The changes of edits lead from one valid program to the next, as those of rules do, and what changes don't wake stays
 -- settled. Use `Laws` for all that the proofs of whole runs need of rules and edits, and `wake_all` and `valid_all` for changes.
-use Rattle.std.proofs.Common.{◌≡◌, true, false, ◌||◌, List, [], ◌∷◌, Option, Some, None, Ok, refl, sym, ◌∙◌}
+use Rattle.std.proofs.Common.{◌≡◌, true, false, List, [], ◌∷◌, Option, Some, None, refl, sym, ◌∙◌}
 use Rattle.std.proofs.lemmas.Bool.{false≢true}
 use Rattle.rvd_fact.specs.declared.cells.Cell.{Cell}
 use Rattle.rvd_fact.specs.declared.cells.Change.{Change}

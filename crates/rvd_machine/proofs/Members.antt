@@ -1,11 +1,11 @@
 -- Which items are in a set after it gains or loses some, and in the jobs that are taken. Use `has_item-with_all`,
 -- `has_item-filter`, `not_woken`, `no_candidate` and `is_taken-items`.
-use Rattle.std.proofs.Common.{◌≡◌, ℕ, ◌^◌, ◌<◌, Bool, true, false, cond, not, ◌&&◌, ◌||◌, nat_lt, List, [], ◌∷◌, ◌++◌, take, drop, filter, Option, Some, None, refl, sym, ap, ◌∙◌, subst}
+use Rattle.std.proofs.Common.{◌≡◌, ℕ, ◌^◌, Bool, true, false, cond, ◌&&◌, ◌||◌, nat_lt, List, [], ◌∷◌, ◌++◌, take, drop, filter, Option, Some, refl, sym, ap, ◌∙◌}
 use Rattle.std.specs.Prelude.{unwrap_or, ◌==◌}
 use Rattle.std.specs.Ordering.{match_ordering}
 use Rattle.std.specs.declared.cmp.Ordering.{Ordering}
 use Rattle.std.specs.declared.cmp.Ordering.TheVariants.{Less, Equal, Greater}
-use Rattle.std.proofs.lemmas.Bool.{or_parts, or_from, and_parts, false≢true, true≢false, lt-ltb}
+use Rattle.std.proofs.lemmas.Bool.{or_parts, or_from, true≢false}
 use Rattle.std.proofs.lemmas.Cmp.{eq_by_cmp_equiv}
 use Rattle.std.proofs.lemmas.List.{take-append-drop}
 use Rattle.std.proofs.lemmas.List.Folds.{list_any-append}

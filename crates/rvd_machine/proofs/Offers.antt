@@ -1,7 +1,6 @@
 -- An offer keeps the state sound. Use `offer_keeps`.
-use Rattle.std.proofs.Common.{◌≡◌, ℕ, ◌^◌, ◌<◌, ◌+◌, Bool, true, false, cond, ◌||◌, ◌==◌, List, [], ◌∷◌, Option, Some, None, refl, sym, ap, ◌∙◌, subst}
+use Rattle.std.proofs.Common.{◌≡◌, ℕ, Bool, true, false, cond, ◌==◌, List, [], ◌∷◌, Option, Some, None, refl, sym, ap, ◌∙◌, subst}
 use Rattle.std.proofs.lemmas.Bool.{or_parts, or_from, cond_both, false≢true, true≢false}
-use Rattle.rvd_fact.specs.declared.cells.Change.{Change}
 use Rattle.rvd_fact.specs.Program.{Program, applied_all}
 use Rattle.rvd_fact.specs.Valid.{IsValid}
 use Rattle.rvd_ask.specs.declared.asks.Analyzer.{Analyzer}
@@ -20,12 +19,12 @@ use Rattle.rvd_event.specs.declared.replies.Reply.TheVariants as reply
 use Rattle.rvd_queue.specs.Sets.{with}
 use Rattle.rvd_wake.specs.Laws.{AnalysisLaws}
 use Rattle.rvd_machine.specs.Enabled.{Enabled, is_on, woken_into}
-use Rattle.rvd_machine.specs.State.{State, Open, Job, base, work, work_in, is_taken, waits, job_of, other_jobs}
+use Rattle.rvd_machine.specs.State.{State, Open, Job, base, work, work_in, is_taken, job_of, other_jobs}
 use Rattle.rvd_machine.specs.Verdicts.{Batch, first_batch, is_body, returned, joined_by, judged, judged_all, IsVerdict, AreVerdicts}
 use Rattle.rvd_machine.specs.Moves.{commit, analysis_text, offered_in, offered_job}
 use Rattle.rvd_machine.specs.Replies.{IsOfferReply}
 use Rattle.rvd_machine.specs.Steps.{is_refused, verdicts_in}
-use Rattle.rvd_machine.specs.Sound.{Sound, AreAllValid, AreValid, IsNoneLost, IsSettledBut, is_kept, programs_of}
+use Rattle.rvd_machine.specs.Sound.{Sound, AreAllValid, AreValid, IsSettledBut, is_kept, programs_of}
 use Rattle.rvd_machine.proofs.Members.{has_item-with, not_taken, not_woken}
 use Rattle.rvd_machine.proofs.Leads.{Laws, wake_all, valid_all}
 use Rattle.rvd_machine.proofs.Keeps.{valid_take}

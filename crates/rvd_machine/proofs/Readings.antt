@@ -1,5 +1,5 @@
 -- The committed program changes only where a step is noted, so the number of steps tells it. Use `base_is_at_steps`.
-use Rattle.std.proofs.Common.{◌≡◌, ℕ, ◌+◌, ◌<◌, ◌≤◌, Bool, true, false, cond, ◌&&◌, ◌==◌, nat_lt, nat_le, List, [], ◌∷◌, ◌++◌, length, Option, Some, None, Result, Ok, Err, refl, sym, ap, ◌∙◌, subst, arith}
+use Rattle.std.proofs.Common.{◌≡◌, ℕ, ◌≤◌, Bool, true, false, cond, ◌&&◌, ◌==◌, nat_lt, nat_le, List, [], ◌∷◌, ◌++◌, length, Option, Some, None, Result, Ok, Err, refl, sym, ap, ◌∙◌, arith}
 use Rattle.std.proofs.lemmas.Bool.{cond_both, leb-true, le-leb}
 use Rattle.std.proofs.lemmas.List.{length-append}
 use Rattle.rvd_fact.specs.declared.cells.Change.{Change}
@@ -15,8 +15,8 @@ use Rattle.rvd_journal.specs.declared.entries.Entry.{Entry}
 use Rattle.rvd_edit.specs.Edits.{edit_of}
 use Rattle.rvd_machine.specs.State.{State, Open, Job, base, work, without, job_of, other_jobs}
 use Rattle.rvd_machine.specs.Verdicts.{Batch, first_batch, judged_all}
-use Rattle.rvd_machine.specs.Moves.{move, changed_in, edited_by, ended_open, ended_in, entry_ended, closed_open, closed_in, entries_aborted, commit, commit_step, rollback, offered_in, offered_job, analysis_text, settled, settles}
-use Rattle.rvd_machine.specs.Steps.{moved, counted, after, is_refused, verdicts_in, Head, start_of, state_from, state, base_at, base_at_from, BaseIsAtSteps}
+use Rattle.rvd_machine.specs.Moves.{move, changed_in, edited_by, ended_open, ended_in, entry_ended, closed_in, entries_aborted, commit, commit_step, rollback, offered_in, offered_job, analysis_text, settled, settles}
+use Rattle.rvd_machine.specs.Steps.{moved, counted, after, is_refused, verdicts_in, start_of, state_from, base_at_from, BaseIsAtSteps}
 
 -- steps are only added, and where none is, the committed program stays
 record Notes (s t : State) : Type 0 where

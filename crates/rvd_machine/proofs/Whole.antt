@@ -11,7 +11,7 @@ use Rattle.rvd_journal.specs.Entries.{is_event}
 use Rattle.rvd_machine.specs.State.{State, job_of}
 use Rattle.rvd_machine.specs.Moves.{undone, redone, filled, cancelled, turned}
 use Rattle.rvd_machine.specs.Replies.{IsReply}
-use Rattle.rvd_machine.specs.Steps.{moved, after, is_refused, IsStep, AreSteps, Head, start_of, state_from, IsLegal}
+use Rattle.rvd_machine.specs.Steps.{moved, after, is_refused, IsStep, AreSteps, Head, start_of, state_from}
 use Rattle.rvd_machine.specs.Sound.{Sound, LegalIsSound}
 use Rattle.rvd_machine.proofs.Leads.{Laws}
 use Rattle.rvd_machine.proofs.Keeps.{begin_keeps, edit_keeps, end_keeps, close_keeps, undo_keeps, redo_keeps, stepped_keeps, settled_keeps}

@@ -1,6 +1,6 @@
 -- The ranges of a reply's parts: those that the types of an entry keep where the machine leaves a choice, in the verdicts of
 -- an offer. Use `is_reply` as the premise of whatever is said of every reply.
-use Rattle.std.specs.Prelude.{ℕ, Bool, true, ◌&&◌, nat_lt, List, length, Option, Some, None}
+use Rattle.std.specs.Prelude.{ℕ, Bool, true, ◌&&◌, nat_lt, List, Option, Some, None}
 use Rattle.std.specs.List.{list_all}
 use Rattle.rvd_fact.specs.declared.keys.Key.{Key}
 use Rattle.rvd_fact.specs.declared.values.Form.{Form}
