@@ -1,4 +1,5 @@
--- The desk's own reply to an offer is legal, and there is one. Use `exact_is_legal` and `exact_is_one`.
+-- The desk's own reply to an offer is legal, and there is one. Use `exact_is_legal` and `exact_is_one`, and
+-- `holds` for a proposal none of whose reads differs.
 use Rattle.std.proofs.Common.{◌≡◌, ℕ, suc, ◌≤◌, Bool, true, false, cond, List, [], ◌∷◌, length, Option, Some, None, refl, sym, ap, ◌∙◌, subst, inl, inr, arith}
 use Rattle.std.specs.Option.{option_map}
 use Rattle.std.proofs.lemmas.Bool.{and_parts}
@@ -7,7 +8,7 @@ use Rattle.rvd_fact.specs.Program.{Program}
 use Rattle.rvd_ask.specs.declared.answers.Answer.{Answer}
 use Rattle.rvd_ask.specs.declared.asks.Ask.{Ask}
 use Rattle.rvd_ask.specs.declared.asks.Item.{Item}
-use Rattle.rvd_ask.specs.Answers.{ans, IsSame}
+use Rattle.rvd_ask.specs.Answers.{ans, Hold, IsSame}
 use Rattle.rvd_ask.specs.Forms.{has_form}
 use Rattle.rvd_ask.specs.Order.{same_item}
 use Rattle.rvd_ask.specs.Promise.{are_reads, Proposed}
@@ -51,6 +52,12 @@ legal_on E P b p v on forms (Some r) first by =
 legal_verdict : (E : Enabled) (P : Program) (b : Batch) (p : Proposed) (v : Verdict) (on : Bool) → is_on E p.item.analyzer ≡ on → are_reads p.reads ≡ true → IsVerdictIf on P b.work p v → IsVerdict E P b p.item v
 legal_verdict E P b p v true is forms exact = legal_on E P b p v is forms exact.0 exact.1 exact.2
 legal_verdict E P b p v false is forms exact = subst (IsVerdict E P b p.item) (sym exact) is
+
+-- where none differs all reads hold, so a proposal's changes are the rule's
+pub holds : (W : Program) (reads : List (Ask × Answer)) → IsFirstDiffering W reads None → Hold W reads
+holds W [] found = tt
+holds W (r ∷ reads) (inl later) = (later.0, holds W reads later.1)
+holds W (r ∷ reads) (inr this) = absurd (none-some r this.1)
 
 -- ---- the verdicts on all proposals of a job
 some-none : {A : Type 0} (x : A) → Some x ≡ None → ⊥

@@ -1,13 +1,15 @@
 pub mod Journals
-mod Replied
+pub mod Replied
 mod Jobs
 mod Bounds
 pub mod Members
-pub mod Leads
-pub mod Keeps
-pub mod Analyses
-pub mod Offers
-pub mod Whole
+mod Leads
+mod Keeps
+mod Analyses
+mod Offers
+mod Whole
 mod Closed
 pub mod Exacts
 mod Readings
+mod Joins
+mod WorkedRows

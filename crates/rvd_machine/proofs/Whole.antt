@@ -43,7 +43,7 @@ move_keeps L s e ok h = moved_keeps L s e.actor e.event e.reply ok.event ok.repl
 pub step_keeps : Laws → (s : State) (e : Entry) → IsStep s e → Sound s → Sound (after s e)
 step_keeps L s e ok h = settled_keeps (moved s e.actor e.event e.reply) (move_keeps L s e ok h)
 
-steps_keep : Laws → (J : List Entry) (s : State) → AreSteps s J → Sound s → Sound (state_from s J)
+pub steps_keep : Laws → (J : List Entry) (s : State) → AreSteps s J → Sound s → Sound (state_from s J)
 steps_keep L [] s ok h = h
 steps_keep L (e ∷ J) s ok h = steps_keep L J (after s e) ok.1 (step_keeps L s e ok.0 h)
 

@@ -11,13 +11,14 @@
 //! * [`journals_are_bounded`] bounds what a state has.
 //! * [`no_event_is_lost`] says that while a whole analysis stands, whatever an analyzer would change waits for it.
 //! * [`settled_is_closed`] says that where an analysis ends, no analyzer would change the committed program.
+//! * [`joined_changes_spare`] says that what joins are its rule's changes, which leave what is protected as it was.
 //! * [`base_is_told_by_steps`] says which program a read of so many steps has.
 //!
 //! [`exact_offers_are_legal`] is a law of the desk's own reply to an offer.
 #![tactic(auto)]
 
 ghost use Rattle.rvd_machine.specs.Exact.{ExactIsLegal, ExactIsOne};
-ghost use Rattle.rvd_machine.specs.Sound.{LegalIsSound, SettledIsClosed};
+ghost use Rattle.rvd_machine.specs.Sound.{JoinedIsSparing, LegalIsSound, SettledIsClosed};
 ghost use Rattle.rvd_machine.specs.Steps.{BaseIsAtSteps, LegalIsBounded};
 
 use rvd_ask::listing_law;
@@ -47,6 +48,17 @@ pub fn no_event_is_lost()
 /// change the committed program.
 pub fn settled_is_closed()
     ensures { SettledIsClosed }
+{
+    analysis_laws();
+    listing_law();
+    edits_fit();
+    edits_set_no_analysis();
+}
+
+/// Each item that joins at an offer of a legal journal has the changes of its rule on the working program that it joins, and
+/// they leave each protected cell as it was.
+pub fn joined_changes_spare()
+    ensures { JoinedIsSparing }
 {
     analysis_laws();
     listing_law();
