@@ -2,7 +2,7 @@ use rvd_ask::{Analyzer, Item};
 use rvd_elf::import;
 use rvd_fact::{Addr, Cell, Change, Key, Kind, RangeSet, RefClass, Source, Value};
 use rvd_program::Program;
-use rvd_wake::{candidates, woken};
+use rvd_wake::{candidates, propose, woken};
 use sample_files::FILE_A;
 use std::alloc::{AllocError, Global};
 use std::test::Fail;
@@ -126,6 +126,12 @@ fn items(alloc: Global, places: &[(Analyzer, Addr)]) -> Result<Vec<Item>, AllocE
     Ok(list)
 }
 
+// How many changes are proposed for an item.
+fn proposed(alloc: Global, program: &Program, item: Item) -> Result<usize, AllocError> {
+    let proposal = propose(alloc, program, item)?;
+    Ok(proposal.changes().len())
+}
+
 #[test]
 fn candidates_are_listed_for_each_analyzer(rt: HostRuntime) -> Result<(), Fail> {
     let alloc = rt.alloc();
@@ -146,6 +152,26 @@ fn candidates_are_listed_for_each_analyzer(rt: HostRuntime) -> Result<(), Fail> 
         }
         let list = candidates(alloc, &program, analyzer)?;
         assert_eq!(rt; list.as_slice(), items(alloc, &wanted)?.as_slice(), "{row}");
+        for item in &list {
+            assert_eq!(rt; proposed(alloc, &program, *item)?, 0, "{row}");
+        }
+    }
+    Ok(())
+}
+
+#[test]
+fn the_analyzer_of_an_item_proposes_its_changes(rt: HostRuntime) -> Result<(), Fail> {
+    let alloc = rt.alloc();
+    let file = imported(alloc)?;
+    let edited = cleared(alloc)?;
+    for (program, analyzer, at, want, row) in [
+        (&file, FLOW, 0x10054, 3, "three units at the entry"),
+        (&file, STRINGS, 0x10054, 0, "nothing reads the entry"),
+        (&edited, FUNCS, 0x10060, 0, "an analyst's function"),
+        (&edited, BODY, 0x10060, 0, "an analyst's body"),
+    ] {
+        let count = proposed(alloc, program, Item { analyzer, at })?;
+        assert_eq!(rt; count, want, "{row}");
     }
     Ok(())
 }
