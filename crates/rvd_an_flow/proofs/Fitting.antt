@@ -22,15 +22,10 @@ use Rattle.rvd_ask.specs.Flow.{bad_instruction, block_may_hold, cell_may_hold, c
 use Rattle.rvd_ask.specs.Rules.{rule}
 use Rattle.rvd_ask.specs.declared.asks.Analyzer.TheVariants.{Flow}
 use Rattle.rvd_ask.specs.Fitting.{FittingLaw}
-use Rattle.rvd_an_flow.proofs.NewUnits.{other_block, other_unit, same_block, same_cover, same_word, valid_unit}
-
-pub none_there : (o : Option Cell) → is_none o ≡ true → o ≡ None
-none_there None h = refl
-none_there (Some c) h = absurd (false≢true h)
-
-nothing : (o : Option ℕ) → is_none o ≡ true → o ≡ None
-nothing None h = refl
-nothing (Some c) h = absurd (false≢true h)
+use Rattle.rvd_fact.proofs.NewUnits.{other_block, other_unit, same_block, same_cover, same_word, valid_unit}
+use Rattle.rvd_fact.proofs.Suiting.{whole_there}
+use Rattle.rvd_ask.proofs.Units.{free_at, none_there, uncovered}
+use Rattle.std.proofs.lemmas.Option.{same_Some}
 
 -- ---- what an openable address has
 hold_len : (b t : ℕ) (v : Value) → may_hold b t v ≡ true → t + 4 ≤ b + block_len v
@@ -61,12 +56,6 @@ end_low b (Plain f) up h = absurd (omega (arith, up))
 end_low b (Ref to class) up h = absurd (omega (arith, up))
 end_low b Gone up h = absurd (omega (arith, up))
 
-pub whole_at : (k : Key) (c : Cell) → suits k c ≡ true → is_whole k.at c.value ≡ true
-whole_at k c h =
-    let behind_kind = (and_parts (is_of k.kind c.value) _ h).1 in
-    let behind_address = (and_parts (is_address k.at) _ behind_kind).1 in
-    (and_parts (is_whole k.at c.value) (may_stand c.source c.value) (and_parts (nat_le k.sub (top_sub k.kind)) _ behind_address).1).0
-
 -- a block around an address doesn't begin above it
 block_low : (S : Program) (t b : ℕ) → block S t ≡ Some b → b ≤ t
 block_low [] t b h = absurd cc
@@ -91,7 +80,7 @@ home_in S t b None valid here low h = absurd (false≢true h)
 home_in S t b (Some c) valid here low h =
     let high : t + 4 ≤ b + block_len c.value = hold_len b t c.value h in
     let size : block_span S b ≡ block_len c.value = ap (span block_len) here in
-    let ends : b + block_len c.value ≤ 4294967296 = end_low b c.value (omega (arith, low, high)) (whole_at (block_key b) c (valid.cells (block_key b) c here)) in
+    let ends : b + block_len c.value ≤ 4294967296 = end_low b c.value (omega (arith, low, high)) (whole_there (block_key b) c (valid.cells (block_key b) c here)) in
     record { start = b; low = low; high = omega (arith, high, size); address = omega (arith, high, ends) }
 
 home_of : (S : Program) (t : ℕ) (o : Option ℕ) → IsValid S → block S t ≡ o → block_may_hold S t o ≡ true → Home S t
@@ -117,27 +106,6 @@ unfolding openable
 opened-back S t o = cc
 
 -- ---- no unit has a free byte
-pub free_at : (S : Program) (n t x : ℕ) → is_free S t n ≡ true → t ≤ x → x < t + n → cover S x ≡ None
-free_at S zero t x h low high = absurd (omega (arith, low, high))
-free_at S (suc n) t x h low high =
-    let parts = and_parts (is_none (cover S t)) (is_free S (t + 1) n) h in
-    elim (cases_eq x t) [
-      | inl same ↦ ap (cover S) same ∙ nothing (cover S t) parts.0
-      | inr other ↦ free_at S n (t + 1) x parts.1 (omega (arith, low, other)) (omega (arith, high))
-    ]
-
-none_passes : (p : Key × Cell → Bool) (S : Program) → option_map (λ (e : Key × Cell). e.0.at) (first_where p S) ≡ None → list_any p S ≡ false
-none_passes p [] h = refl
-none_passes p (e ∷ S) h = elim (p e) as (λ b. option_map (λ (x : Key × Cell). x.0.at) (cond b (Some e) (first_where p S)) ≡ None → (b || list_any p S) ≡ false) [
-  | true ↦ λ h. absurd cc
-  | false ↦ λ h. none_passes p S h
-] h
-
-pub uncovered : (S : Program) (x : ℕ) → cover S x ≡ None → (k : Key) (c : Cell) → cell_at S k ≡ Some c → k.at ≤ x → x < k.at + unit_len c.value → ⊥
-uncovered S x none k c here low high =
-    both_ways (list_any (covers x) S) (none_passes (covers x) S none)
-    (scanned (covers x) S (record { key = k; cell = c; here = here; passes = and_from (nat_le k.at x) _ (le-leb k.at x low) (lt-ltb x (k.at + unit_len c.value) high) }))
-
 apart_from : (S : Program) (t b : ℕ) (o : Option Cell) → is_free S t 4 ≡ true → cell_at S (unit_key b) ≡ o → (b ≡ t → ⊥) → 0 < span unit_len o → (t + 4 ≤ b) ⊎ (b + span unit_len o ≤ t)
 apart_from S t b None free here other up = absurd (omega (arith, up))
 apart_from S t b (Some c) free here other up =
@@ -285,13 +253,10 @@ error_cell = record { value = Bookmark bad_instruction; source = Analysis }
 error_suits : (t : ℕ) → t < 4294967296 → suits (error_key t) error_cell ≡ true
 error_suits t low = and_from (is_address t) _ (lt-ltb t 4294967296 low) refl
 
-same_cell : (c d : Cell) → Some c ≡ Some d → c ≡ d
-same_cell c d h = cc
-
 bookmark_fits : (S : Program) (t : ℕ) → IsValid S → t < 4294967296 → is_none (cell_at S (error_key t)) ≡ true → Fits S (addition (error_key t) (Bookmark bad_instruction) ∷ [])
 bookmark_fits S t valid low none = (
   none_there (cell_at S (error_key t)) none,
-  valid_placed S (error_key t) (Some error_cell) valid (λ e. omega (arith, e)) (λ e. omega (arith, e)) (λ c h. ap (suits (error_key t)) (sym (same_cell error_cell c h)) ∙ error_suits t low),
+  valid_placed S (error_key t) (Some error_cell) valid (λ e. omega (arith, e)) (λ e. omega (arith, e)) (λ c h. ap (suits (error_key t)) (sym (same_Some error_cell c h)) ∙ error_suits t low),
   tt,
 )
 

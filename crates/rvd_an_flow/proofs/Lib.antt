@@ -1,6 +1,5 @@
 pub mod Steps
 pub mod Locality
-pub mod NewUnits
 pub mod Fitting
 pub mod Coming
 pub mod Waking

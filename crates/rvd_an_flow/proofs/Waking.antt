@@ -32,111 +32,12 @@ use Rattle.rvd_ask.specs.Flow.{block_may_hold, cell_may_hold, decides, decodes, 
 use Rattle.rvd_ask.specs.Rules.{rule}
 use Rattle.rvd_ask.specs.Wake.{Leads, WakeLaw, around, bytes_gone, comes_near, comes_to, gone_from, is_flow_candidate, is_unit_of, meets, same_form, same_unit, stood_on, wakes, wakes_flow}
 use Rattle.rvd_an_flow.proofs.Coming.{AreComing, no_change, no_starts, none_decides, starts_come}
-use Rattle.rvd_an_flow.proofs.Fitting.{Opened, opened, opened-back, free_at, uncovered, whole_at}
+use Rattle.rvd_an_flow.proofs.Fitting.{Opened, opened, opened-back}
+use Rattle.rvd_ask.proofs.Units.{any_covers, free_at, stands, stands_on, uncovered, unfree, unit_rank, unit_same}
+use Rattle.rvd_fact.proofs.Suiting.{whole_there}
+use Rattle.std.proofs.lemmas.Option.{same_Some, none-some}
 
 -- ---- values of units
-unit_rank : (K : Kind) (v : Value) → is_of K v ≡ true → 0 < unit_len v → rank K ≡ 7
-unit_rank K (Code w) of up = eqb-true (rank K) 7 of
-unit_rank K (Plain f) of up = eqb-true (rank K) 7 of
-unit_rank K (Block len perm bytes) of up = absurd (omega (arith, up))
-unit_rank K Mark of up = absurd (omega (arith, up))
-unit_rank K Func of up = absurd (omega (arith, up))
-unit_rank K (Body ranges) of up = absurd (omega (arith, up))
-unit_rank K (Symbol name) of up = absurd (omega (arith, up))
-unit_rank K (Comment text) of up = absurd (omega (arith, up))
-unit_rank K (Bookmark text) of up = absurd (omega (arith, up))
-unit_rank K (Ref to class) of up = absurd (omega (arith, up))
-unit_rank K Gone of up = absurd (omega (arith, up))
-
--- a unit stands on its bytes
-stands : (v : Value) → 0 < unit_len v → stood_on v ≡ unit_len v
-stands Gone up = absurd (omega (arith, up))
-stands (Block len perm bytes) up = refl
-stands Mark up = refl
-stands Func up = refl
-stands (Body ranges) up = refl
-stands (Symbol name) up = refl
-stands (Comment text) up = refl
-stands (Bookmark text) up = refl
-stands (Code w) up = refl
-stands (Plain f) up = refl
-stands (Ref to class) up = refl
-
--- each cell of a unit's key stands on a byte
-stands_on : (a : ℕ) (v : Value) → is_of kind.Unit v ≡ true → is_whole a v ≡ true → 0 < stood_on v
-stands_on a (Code w) of whole = omega arith
-stands_on a (Plain Byte) of whole = omega arith
-stands_on a (Plain Half) of whole = omega arith
-stands_on a (Plain Word) of whole = omega arith
-stands_on a (Plain (Str n)) of whole = let low : 1 ≤ n = leb-true 1 n (and_parts (nat_le 1 n) (nat_le n 256) whole).0 in omega (arith, low)
-stands_on a Gone of whole = omega arith
-stands_on a (Block len perm bytes) of whole = absurd (false≢true of)
-stands_on a Mark of whole = absurd (false≢true of)
-stands_on a Func of whole = absurd (false≢true of)
-stands_on a (Body ranges) of whole = absurd (false≢true of)
-stands_on a (Symbol name) of whole = absurd (false≢true of)
-stands_on a (Comment text) of whole = absurd (false≢true of)
-stands_on a (Bookmark text) of whole = absurd (false≢true of)
-stands_on a (Ref to class) of whole = absurd (false≢true of)
-
--- units that are one have the same bytes
-form_same : (f g : Form) → same_form f g ≡ true → form_len f ≡ form_len g
-form_same Byte Byte h = refl
-form_same Byte Half h = absurd (false≢true h)
-form_same Byte Word h = absurd (false≢true h)
-form_same Byte (Str n) h = absurd (false≢true h)
-form_same Half Byte h = absurd (false≢true h)
-form_same Half Half h = refl
-form_same Half Word h = absurd (false≢true h)
-form_same Half (Str n) h = absurd (false≢true h)
-form_same Word Byte h = absurd (false≢true h)
-form_same Word Half h = absurd (false≢true h)
-form_same Word Word h = refl
-form_same Word (Str n) h = absurd (false≢true h)
-form_same (Str m) Byte h = absurd (false≢true h)
-form_same (Str m) Half h = absurd (false≢true h)
-form_same (Str m) Word h = absurd (false≢true h)
-form_same (Str m) (Str n) h = eqb-true m n h
-
-code_same : (w : ℕ) (v : Value) → same_unit (Code w) v ≡ true → unit_len v ≡ 4
-code_same w (Code v) h = refl
-code_same w (Plain f) h = absurd (false≢true h)
-code_same w (Block len perm bytes) h = absurd (false≢true h)
-code_same w Mark h = absurd (false≢true h)
-code_same w Func h = absurd (false≢true h)
-code_same w (Body ranges) h = absurd (false≢true h)
-code_same w (Symbol name) h = absurd (false≢true h)
-code_same w (Comment text) h = absurd (false≢true h)
-code_same w (Bookmark text) h = absurd (false≢true h)
-code_same w (Ref to class) h = absurd (false≢true h)
-code_same w Gone h = absurd (false≢true h)
-
-plain_same : (f : Form) (v : Value) → same_unit (Plain f) v ≡ true → unit_len v ≡ form_len f
-plain_same f (Plain g) h = sym (form_same f g h)
-plain_same f (Code v) h = absurd (false≢true h)
-plain_same f (Block len perm bytes) h = absurd (false≢true h)
-plain_same f Mark h = absurd (false≢true h)
-plain_same f Func h = absurd (false≢true h)
-plain_same f (Body ranges) h = absurd (false≢true h)
-plain_same f (Symbol name) h = absurd (false≢true h)
-plain_same f (Comment text) h = absurd (false≢true h)
-plain_same f (Bookmark text) h = absurd (false≢true h)
-plain_same f (Ref to class) h = absurd (false≢true h)
-plain_same f Gone h = absurd (false≢true h)
-
-unit_same : (v w : Value) → 0 < unit_len v → same_unit v w ≡ true → unit_len w ≡ unit_len v
-unit_same (Code a) w up h = code_same a w h
-unit_same (Plain f) w up h = plain_same f w h
-unit_same Gone w up h = absurd (omega (arith, up))
-unit_same (Block len perm bytes) w up h = absurd (omega (arith, up))
-unit_same Mark w up h = absurd (omega (arith, up))
-unit_same Func w up h = absurd (omega (arith, up))
-unit_same (Body ranges) w up h = absurd (omega (arith, up))
-unit_same (Symbol name) w up h = absurd (omega (arith, up))
-unit_same (Comment text) w up h = absurd (omega (arith, up))
-unit_same (Bookmark text) w up h = absurd (omega (arith, up))
-unit_same (Ref to class) w up h = absurd (omega (arith, up))
-
 -- what isn't of a reference's kind is no reference
 no_ref : (slot : ℕ) (K : Kind) (v : Value) → is_of K v ≡ true → (rank K ≡ 8 → ⊥) → ref_of slot v ≡ None
 no_ref slot K (Ref to class) of other = absurd (other (eqb-true (rank K) 8 of))
@@ -152,23 +53,6 @@ no_ref slot K (Plain f) of other = refl
 no_ref slot K Gone of other = refl
 
 -- ---- scans
-any_covers : (x : ℕ) (S : Program) → is_none (cover S x) ≡ false → list_any (covers x) S ≡ true
-any_covers x [] h = absurd (true≢false h)
-any_covers x (e ∷ es) h = elim (covers x e) as (λ b. is_none (option_map (λ (y : Key × Cell). y.0.at) (cond b (Some e) (first_where (covers x) es))) ≡ false → (b || list_any (covers x) es) ≡ true) [
-  | true ↦ λ h. refl
-  | false ↦ λ h. any_covers x es h
-] h
-
--- a byte of a range that isn't free
-unfree : (S : Program) (n t : ℕ) → is_free S t n ≡ false → (x : ℕ) × (t ≤ x) × (x < t + n) × (is_none (cover S x) ≡ false)
-unfree S zero t h = absurd (true≢false h)
-unfree S (suc n) t h = elim (cases_Bool (is_none (cover S t))) [
-  | inr taken ↦ (t, omega arith, omega arith, taken)
-  | inl free ↦
-      let later : (x : ℕ) × (t + 1 ≤ x) × (x < t + 1 + n) × (is_none (cover S x) ≡ false) = unfree S n (t + 1) (sym (ap (λ b. b && is_free S (t + 1) n) free) ∙ h) in
-      (later.0, omega (arith, later.1), omega (arith, later.2), later.3)
-]
-
 -- a word that meets a range is among those around it
 in_around : (p : ℕ → Bool) (z t : ℕ) → p t ≡ true → z < t + 4 → (n : ℕ) → t < z + n → list_any p (around z n) ≡ true
 in_around p z t h low zero high =
@@ -224,12 +108,6 @@ filter_cons (Some r) rs = r ∷ rs
 
 abbrev ref_at : ℕ → Key × Cell → Option (ℕ × RefClass × ℕ)
 ref_at x e = cond (e.0.at == x) (ref_of e.0.sub e.1.value) None
-
-same_some : (c d : Cell) → Some c ≡ Some d → c ≡ d
-same_some c d h = cc
-
-None≢Some : (c : Cell) → None ≡ Some c → ⊥
-None≢Some c h = cc
 
 module _ (S : Program) (c : Change) (x : ℕ) (l : Leads S c) (asleep : wakes_flow c.key.kind (applied S c) c x ≡ false) where
   abbrev T : Program
@@ -358,14 +236,14 @@ module _ (S : Program) (c : Change) (x : ℕ) (l : Leads S c) (asleep : wakes_fl
     was_empty t None aligned comes empty here = refl
     was_empty t (Some d) aligned comes empty here =
         absurd (elim (cases_key (unit_key t) c.key) [
-          | inr apart ↦ None≢Some d (sym empty ∙ cell_at-placed S c.key c.after (unit_key t) ∙ ap (λ (b : Bool). cond b c.after (cell_at S (unit_key t))) apart ∙ here)
+          | inr apart ↦ none-some d (sym empty ∙ cell_at-placed S c.key c.after (unit_key t) ∙ ap (λ (b : Bool). cond b c.after (cell_at S (unit_key t))) apart ∙ here)
           | inl same ↦
               let at : t ≡ c.key.at = ap (λ (q : Key). q.at) same in
               let is_unit : 7 ≡ rank c.key.kind = ap (λ (q : Key). rank q.kind) same in
               let before : c.before ≡ Some d = sym l.here ∙ ap (cell_at S) (sym same) ∙ here in
               let after : c.after ≡ None = sym at_changed ∙ ap (cell_at T) (sym same) ∙ empty in
               let own : suits (unit_key t) d ≡ true = l.before.cells (unit_key t) d here in
-              let some : 0 < stood_on d.value = stands_on t d.value (suits-is_of (unit_key t) d own) (whole_at (unit_key t) d own) in
+              let some : 0 < stood_on d.value = stands_on t d.value (suits-is_of (unit_key t) d own) (whole_there (unit_key t) d own) in
               let gone : gone_from c ≡ stood_on d.value = (λ i. bytes_gone (before i) (after i)) in
               gone_near t (sym is_unit) aligned comes (omega (arith, gone, some)) (omega (arith, at, gone, some)) (omega (arith, at))
         ])

@@ -18,7 +18,7 @@ use Rattle.rvd_ask.specs.Reach.{reach, spans}
 use Rattle.rvd_ask.specs.Rules.{rule}
 use Rattle.rvd_ask.specs.Fitting.{FittingLaw}
 use Rattle.rvd_an_funcs.proofs.CodeOrder.{reach_ends, reach_rises}
-use Rattle.rvd_an_funcs.proofs.Suiting.{address_there}
+use Rattle.rvd_fact.proofs.Suiting.{address_there}
 use Rattle.rvd_an_funcs.proofs.Spans.{spans_ranges}
 
 -- the bytes of a reach are a set of ranges

@@ -20,51 +20,20 @@ use Rattle.rvd_fact.specs.Program.{Program, cell_at, IsInOrder}
 use Rattle.rvd_fact.specs.Memory.{block_key, block_len, has_instruction, is_code, is_instruction, unit_key, unit_len}
 use Rattle.rvd_fact.specs.Valid.{block_span, is_address, is_of, is_whole, span, suits, top_sub, unit_span, IsValid}
 use Rattle.rvd_fact.proofs.KeyOrder.{cases_key, same_key_itself, same_kind}
-use Rattle.rvd_fact.proofs.Scans.{absent, first, second}
+use Rattle.rvd_fact.proofs.Scans.{absent, first, second, behind}
 use Rattle.rvd_fact.proofs.Validity.{suits-is_of}
 use Rattle.rvd_ask.specs.Reach.{code_addresses, grown_times, has, reach}
-use Rattle.rvd_ask.proofs.CodeAddresses.{are_codes}
+use Rattle.rvd_ask.proofs.CodeAddresses.{are_codes, unit_key_is}
 use Rattle.rvd_ask.proofs.Growing.{has-filter}
 use Rattle.rvd_an_funcs.proofs.Rising.{rises_apart, rises_filter, Rises}
-use Rattle.rvd_an_funcs.proofs.Suiting.{whole_there}
+use Rattle.rvd_fact.proofs.Suiting.{whole_there}
 
 -- ---- an instruction's key
-unit_rank : (K : Kind) (v : Value) → is_code v ≡ true → is_of K v ≡ true → rank K ≡ 7
-unit_rank K (Code w) h of = eqb-true (rank K) 7 of
-unit_rank K (Block len perm bytes) h of = absurd (false≢true h)
-unit_rank K Mark h of = absurd (false≢true h)
-unit_rank K Func h of = absurd (false≢true h)
-unit_rank K (Body ranges) h of = absurd (false≢true h)
-unit_rank K (Symbol name) h of = absurd (false≢true h)
-unit_rank K (Comment text) h of = absurd (false≢true h)
-unit_rank K (Bookmark text) h of = absurd (false≢true h)
-unit_rank K (Plain f) h of = absurd (false≢true h)
-unit_rank K (Ref to class) h of = absurd (false≢true h)
-unit_rank K Gone h of = absurd (false≢true h)
-
-top_of_unit : (K : Kind) → K ≡ kind.Unit → top_sub K ≡ 0
-top_of_unit K e = ap top_sub e
-
--- the key of an instruction is that of a unit
-unit_key_is : (k : Key) (c : Cell) → suits k c ≡ true → is_code c.value ≡ true → k ≡ unit_key k.at
-unit_key_is k c h code =
-    let of : is_of k.kind c.value ≡ true = suits-is_of k c h in
-    let K : k.kind ≡ kind.Unit = same_kind k.kind kind.Unit (unit_rank k.kind c.value code of) in
-    let s : k.sub ≡ 0 = omega (arith, leb-true k.sub (top_sub k.kind) (and_parts (nat_le k.sub (top_sub k.kind)) _ (and_parts (is_address k.at) _ (and_parts (is_of k.kind c.value) _ h).1).1).0, top_of_unit k.kind K) in
-    λ i. record { at = k.at; kind = K i; sub = s i }
-
 -- ---- they rise
 -- each cell of the entries suits its key
 Suit : Program → Type 0
 Suit [] = Unit {0}
 Suit (e ∷ es) = (suits e.0 e.1 ≡ true) × Suit es
-
--- what is found behind an entry is found from it on
-behind : (e : Key × Cell) (es : Program) (k : Key) (c : Cell) → T (below_all key_cmp e.0 es) → cell_at es k ≡ Some c → cell_at (e ∷ es) k ≡ Some c
-behind e es k c below here = elim (cases_key k e.0) [
-  | inl same ↦ absurd (none-some c (sym (absent e.0 es below) ∙ ap (cell_at es) (sym same) ∙ here))
-  | inr other ↦ ap (λ (b : Bool). cond b (Some e.1) (cell_at es k)) other ∙ here
-]
 
 all_suit : (es : Program) → IsInOrder es → ((k : Key) (c : Cell) → cell_at es k ≡ Some c → suits k c ≡ true) → Suit es
 unfolding Suit
@@ -94,7 +63,7 @@ unfolding Suit
 codes_behind a [] below fits = tt
 codes_behind a (e ∷ es) below fits = (
   λ code.
-      let under : a < e.0.at = lower a e.0.at (subst (λ (k : Key). T (is_lt (key_cmp (unit_key a) k))) (unit_key_is e.0 e.1 fits.0 code) (first _ _ below)) in
+      let under : a < e.0.at = lower a e.0.at (subst (λ (k : Key). T (is_lt (key_cmp (unit_key a) k))) (unit_key_is e.0 e.1 e.0.at fits.0 code refl) (first _ _ below)) in
       omega arith,
   codes_behind a es (second _ _ below) fits.1,
 )
@@ -105,7 +74,7 @@ codes_rise low [] s fits from = tt
 codes_rise low (e ∷ es) s fits from =
     elim (is_code e.1.value) as (λ b. is_code e.1.value ≡ b → Rises 1 low (cons_option (cond b (Some e.0.at) None) (code_addresses es))) [
       | true ↦ λ code.
-          let below : T (below_all key_cmp (unit_key e.0.at) es) = subst (λ (k : Key). T (below_all key_cmp k es)) (unit_key_is e.0 e.1 fits.0 code) (first _ _ s) in
+          let below : T (below_all key_cmp (unit_key e.0.at) es) = subst (λ (k : Key). T (below_all key_cmp k es)) (unit_key_is e.0 e.1 e.0.at fits.0 code refl) (first _ _ s) in
           (from.0 code, codes_rise (e.0.at + 1) es (second _ _ s) fits.1 (codes_behind e.0.at es below fits.1))
       | false ↦ λ code. codes_rise low es (second _ _ s) fits.1 from.1
     ] refl

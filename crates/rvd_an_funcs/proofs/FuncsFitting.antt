@@ -16,11 +16,8 @@ use Rattle.rvd_ask.specs.Funcs.{funcs_rule, is_new_function}
 use Rattle.rvd_ask.specs.Places.{addition}
 use Rattle.rvd_ask.specs.Rules.{rule}
 use Rattle.rvd_ask.specs.Fitting.{FittingLaw}
-use Rattle.rvd_an_funcs.proofs.Suiting.{address_there}
-
-none_there : (o : Option Cell) → is_none o ≡ true → o ≡ None
-none_there None h = refl
-none_there (Some c) h = absurd (false≢true h)
+use Rattle.rvd_fact.proofs.Suiting.{address_there}
+use Rattle.rvd_ask.proofs.Units.{none_there}
 
 instruction_there : (S : Program) (t : ℕ) → IsValid S → (o : Option Cell) → cell_at S (unit_key t) ≡ o → is_instruction o ≡ true → is_address t ≡ true
 instruction_there S t valid None here h = absurd (false≢true h)

@@ -3,7 +3,6 @@ mod MetSet
 pub mod Lists
 pub mod Rising
 pub mod Spans
-pub mod Suiting
 pub mod CodeOrder
 pub mod Walks
 pub mod BodyFitting

@@ -26,6 +26,8 @@ use Rattle.rvd_ask.specs.Refs.{computed, computed_address, computed_class, direc
 use Rattle.rvd_ask.specs.Rules.{rule}
 use Rattle.rvd_ask.specs.declared.asks.Analyzer.TheVariants.{Refs}
 use Rattle.rvd_ask.specs.Fitting.{FittingLaw}
+use Rattle.rvd_ask.proofs.Units.{none_there}
+use Rattle.rvd_fact.proofs.Suiting.{address_there}
 
 -- where there is a reference, it goes to an address
 abbrev GoesToAddress : Option (RefClass × ℕ) → Type 0
@@ -54,10 +56,6 @@ computed_goes : (S : Program) (y : ℕ) (i : Instruction) (o : Option RefClass)
     → GoesToAddress (option_and_then (λ class. option_map (λ upper. (class, computed_address i.op (moved upper i.imm))) (upper_before S y i.rs1)) o)
 computed_goes S y i None = tt
 computed_goes S y i (Some class) = with_upper i class (upper_before S y i.rs1)
-
-none_there : (o : Option Cell) → is_none o ≡ true → o ≡ None
-none_there None h = refl
-none_there (Some c) h = absurd (false≢true h)
 
 abbrev ref_cell : RefClass × ℕ → Cell
 ref_cell r = record { value = Ref r.1 r.0; source = Analysis }
@@ -94,10 +92,6 @@ slots_fit S y valid from (Some i) =
     slot_fits S S y 0 (direct y i) (slot_changes S y 1 (computed S y i)) valid refl from refl (direct_goes y i (target_class i.op i.rd))
     (λ c v. last_fits S (placed S (ref_key y 0) c) y (computed S y i) v (cell_at_other S (ref_key y 0) c (ref_key y 1) (slots_apart y)) from address)
     (last_fits S S y (computed S y i) valid refl from address)
-
--- a cell stands at an address
-address_there : (k : Key) (c : Cell) → suits k c ≡ true → is_address k.at ≡ true
-address_there k c h = (and_parts (is_address k.at) _ (and_parts (is_of k.kind c.value) _ h).1).0
 
 unit_fits : (S : Program) (y : ℕ) → IsValid S → (o : Option Cell) → cell_at S (unit_key y) ≡ o → Fits S (instruction_changes S y (cell_instruction o))
 unit_fits S y valid None here = tt

@@ -16,15 +16,11 @@ use Rattle.rvd_ask.specs.Flow.{is_free}
 use Rattle.rvd_ask.specs.Places.{addition}
 use Rattle.rvd_ask.specs.Rules.{rule}
 use Rattle.rvd_ask.specs.Strings.{is_read_at, string_changes, string_len, tail}
-use Rattle.rvd_an_strings.proofs.NewUnits.{valid_unit}
+use Rattle.rvd_fact.proofs.NewUnits.{valid_unit}
 use Rattle.rvd_an_strings.proofs.Rooms.{Within, within}
 use Rattle.rvd_an_strings.proofs.Strings.{Bounded, string_low}
-use Rattle.rvd_an_strings.proofs.Units.{free_at, uncovered}
+use Rattle.rvd_ask.proofs.Units.{free_at, uncovered, none_there}
 use Rattle.rvd_an_strings.proofs.Wholes.{read_changes, unread_changes}
-
-pub none_there : (o : Option Cell) → is_none o ≡ true → o ≡ None
-none_there None h = refl
-none_there (Some c) h = absurd (false≢true h)
 
 -- a unit meets none of n free bytes
 apart_from : (S : Program) (t n b : ℕ) (o : Option Cell) → is_free S t n ≡ true → 0 < n → cell_at S (unit_key b) ≡ o → 0 < span unit_len o → (t + n ≤ b) ⊎ (b + span unit_len o ≤ t)

@@ -6,7 +6,5 @@ pub mod Strings
 pub mod TextSteps
 pub mod Wholes
 pub mod Locality
-mod NewUnits
-pub mod Units
 pub mod Fitting
 pub mod Waking

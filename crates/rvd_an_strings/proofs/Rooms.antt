@@ -21,7 +21,7 @@ use Rattle.rvd_fact.specs.Program.{Program, cell_at, IsInOrder}
 use Rattle.rvd_fact.specs.Memory.{block, block_key, block_len, bytes, bytes_in, surrounds}
 use Rattle.rvd_fact.specs.Valid.{IsValid, are_bytes, block_span, has_bytes, is_address, is_of, is_whole, may_stand, span, suits, top_sub}
 use Rattle.rvd_fact.proofs.KeyOrder.{cases_key, same_key_itself}
-use Rattle.rvd_fact.proofs.Scans.{absent, first, scanned, second}
+use Rattle.rvd_fact.proofs.Scans.{absent, first, scanned, second, behind}
 use Rattle.rvd_fact.proofs.Validity.{suits-is_of}
 use Rattle.rvd_ask.specs.declared.asks.Ask.TheVariants as ask
 use Rattle.rvd_ask.specs.declared.answers.Answer.TheVariants as answer
@@ -29,14 +29,9 @@ use Rattle.rvd_ask.specs.Forms.{has_form}
 use Rattle.rvd_ask.specs.Strings.{tail, tail_in}
 use Rattle.rvd_ask.proofs.Told.{has_form-ans}
 use Rattle.rvd_an_strings.specs.Parts.{block_room, cell_room, value_room}
+use Rattle.rvd_fact.proofs.Suiting.{sub_there, whole_there}
 
 -- ---- the first entry that passes a test
-behind : (e : Key × Cell) (es : Program) (k : Key) (c : Cell) → T (below_all key_cmp e.0 es) → cell_at es k ≡ Some c → cell_at (e ∷ es) k ≡ Some c
-behind e es k c below here = elim (cases_key k e.0) [
-  | inl same ↦ let none : None ≡ Some c = sym (absent e.0 es below) ∙ ap (cell_at es) (sym same) ∙ here in absurd cc
-  | inr other ↦ ap (λ (b : Bool). cond b (Some e.1) (cell_at es k)) other ∙ here
-]
-
 -- it stands in the program, and passes
 record First (p : Key × Cell → Bool) (S : Program) (e : Key × Cell) : Type 0 where
   here : cell_at S e.0 ≡ Some e.1
@@ -89,21 +84,11 @@ block_rank K (Plain f) of up = absurd (omega (arith, up))
 block_rank K (Ref to class) of up = absurd (omega (arith, up))
 block_rank K Gone of up = absurd (omega (arith, up))
 
-sub_low : (k : Key) (c : Cell) → suits k c ≡ true → k.sub ≤ top_sub k.kind
-sub_low k c h =
-    let behind_address = (and_parts (is_address k.at) _ (and_parts (is_of k.kind c.value) _ h).1).1 in
-    leb-true k.sub (top_sub k.kind) (and_parts (nat_le k.sub (top_sub k.kind)) _ behind_address).0
-
-pub whole_at : (k : Key) (c : Cell) → suits k c ≡ true → is_whole k.at c.value ≡ true
-whole_at k c h =
-    let behind_address = (and_parts (is_address k.at) _ (and_parts (is_of k.kind c.value) _ h).1).1 in
-    (and_parts (is_whole k.at c.value) (may_stand c.source c.value) (and_parts (nat_le k.sub (top_sub k.kind)) _ behind_address).1).0
-
 -- a block stands at the key of a block
 key_of_block : (k : Key) (c : Cell) → suits k c ≡ true → 0 < block_len c.value → k ≡ block_key k.at
 key_of_block k c h up =
     let is_block : k.kind ≡ kind.Block = block_kind k.kind (block_rank k.kind c.value (suits-is_of k c h) up) in
-    let low : k.sub ≤ 0 = subst (λ K. k.sub ≤ top_sub K) is_block (sub_low k c h) in
+    let low : k.sub ≤ 0 = subst (λ K. k.sub ≤ top_sub K) is_block (sub_there k c h) in
     let none : k.sub ≡ 0 = omega (arith, low) in
     λ i. record { at = k.at; kind = is_block i; sub = none i }
 
@@ -198,7 +183,7 @@ module _ (S : Program) (valid : IsValid S) (t : ℕ) where
   length_in None h = refl
   length_in (Some e) h =
       let x : Around S valid t e.0 e.1 = found_around S valid t e.0 e.1 h in
-      value_tail e.0.at t e.1.value (whole_at e.0 e.1 (valid.cells e.0 e.1 x.here)) ∙ sym (ap (cell_room e.0.at t) x.at_start)
+      value_tail e.0.at t e.1.value (whole_there e.0 e.1 (valid.cells e.0 e.1 x.here)) ∙ sym (ap (cell_room e.0.at t) x.at_start)
 
   pub length-tail : length (tail S t) ≡ block_room S t (block S t)
   length-tail = length_in (first_where (surrounds t) S) refl
@@ -209,7 +194,7 @@ module _ (S : Program) (valid : IsValid S) (t : ℕ) where
       let v = Block len perm (Some all) in
       let c : Cell = record { value = v; source = s } in
       let x : Around S valid t k c = found_around S valid t k c h in
-      let size : length all ≡ len = bytes_there k.at len perm all (whole_at k c (valid.cells k c x.here)) in
+      let size : length all ≡ len = bytes_there k.at len perm all (whole_there k c (valid.cells k c x.here)) in
       let rest : length (drop (t - k.at) all) ≡ length all - (t - k.at) = length-drop (t - k.at) all in
       let y : Around S valid (t + j) k c = record { here = x.here; low = omega (arith, x.low); high = omega (arith, x.low, low, rest, size); key = x.key; at_start = x.at_start; long = x.long } in
       let lies : (nat_lt 0 1 && nat_le (t + j + 1) (k.at + length all)) ≡ true = le-leb (t + j + 1) (k.at + length all) (omega (arith, x.low, low, rest, size)) in
@@ -241,7 +226,7 @@ module _ (S : Program) (valid : IsValid S) (t : ℕ) where
   within_in k (Block len perm (Some all)) s h low =
       let c : Cell = record { value = Block len perm (Some all); source = s } in
       let x : Around S valid t k c = found_around S valid t k c h in
-      let whole : is_whole k.at c.value ≡ true = whole_at k c (valid.cells k c x.here) in
+      let whole : is_whole k.at c.value ≡ true = whole_there k c (valid.cells k c x.here) in
       let size : length all ≡ len = bytes_there k.at len perm all whole in
       let top : k.at + len ≤ 4294967296 = end_there k.at len perm (Some all) whole in
       let rest : length (drop (t - k.at) all) ≡ length all - (t - k.at) = length-drop (t - k.at) all in

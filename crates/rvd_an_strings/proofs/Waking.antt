@@ -28,11 +28,10 @@ use Rattle.rvd_ask.specs.Places.{addition}
 use Rattle.rvd_ask.specs.Rules.{rule}
 use Rattle.rvd_ask.specs.Strings.{is_read_at, string_changes, string_len, strings_rule, tail, tail_in, text_len}
 use Rattle.rvd_ask.specs.Wake.{Leads, WakeLaw, bytes_gone, cell_goes_to, gone_from, goes_to, is_unit_of, meets_string, stood_on, wakes, wakes_strings}
-use Rattle.rvd_an_strings.proofs.Fitting.{none_there}
-use Rattle.rvd_an_strings.proofs.Rooms.{whole_at}
 use Rattle.rvd_an_strings.proofs.Strings.{Bounded, string_is, string_low}
-use Rattle.rvd_an_strings.proofs.Units.{any_covers, free_at, stands, stands_on, uncovered, unfree, unit_rank, unit_same}
+use Rattle.rvd_ask.proofs.Units.{any_covers, free_at, stands, stands_on, uncovered, unfree, unit_rank, unit_same, none_there}
 use Rattle.rvd_an_strings.proofs.Wholes.{read_changes, unread_changes}
+use Rattle.rvd_fact.proofs.Suiting.{whole_there}
 
 -- ---- what a change that doesn't wake the rule is not
 asleep_block : (T : Program) (c : Change) (t : ℕ) (K : Kind) → wakes_strings K T c t ≡ false → rank K ≡ 0 → is_read_at T t ≡ false
@@ -181,7 +180,7 @@ module _ (S : Program) (c : Change) (t : ℕ) (l : Leads S c) (asleep : wakes_st
               let before : c.before ≡ Some d = sym l.here ∙ ap (cell_at S) (sym same) ∙ here in
               let after : c.after ≡ None = sym at_changed ∙ ap (cell_at T) (sym same) ∙ empty in
               let own : suits (unit_key t) d ≡ true = l.before.cells (unit_key t) d here in
-              let some : 0 < stood_on d.value = stands_on t d.value (suits-is_of (unit_key t) d own) (whole_at (unit_key t) d own) in
+              let some : 0 < stood_on d.value = stands_on t d.value (suits-is_of (unit_key t) d own) (whole_there (unit_key t) d own) in
               let gone : gone_from c ≡ stood_on d.value = (λ i. bytes_gone (before i) (after i)) in
               gone_near (sym is_unit) (omega (arith, gone, some)) (omega (arith, at)) (omega (arith, at, gone, some))
         ])

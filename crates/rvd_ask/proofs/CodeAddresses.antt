@@ -1,4 +1,5 @@
--- The addresses of a valid program's instructions: `code_addresses` has just those where an instruction is.
+-- The addresses of a valid program's instructions: `code_addresses` has just those where an instruction is (`are_codes`), and
+-- `unit_key_is` says that an instruction stands at the key of a unit.
 use Rattle.std.proofs.Common.{◌≡◌, ℕ, Bool, true, false, cond, ◌&&◌, ◌||◌, List, [], ◌∷◌, Option, Some, None, refl, sym, ap, ◌∙◌, arith}
 use Rattle.std.specs.Prelude.{◌==◌, nat_le}
 use Rattle.std.specs.List.{list_any}
@@ -51,7 +52,7 @@ top_of_unit : (K : Kind) → K ≡ kind.Unit → top_sub K ≡ 0
 top_of_unit K e = ap top_sub e
 
 -- the key of an instruction is that of its unit
-unit_key_is : (k : Key) (c : Cell) (z : ℕ) → suits k c ≡ true → is_code c.value ≡ true → k.at ≡ z → k ≡ unit_key z
+pub unit_key_is : (k : Key) (c : Cell) (z : ℕ) → suits k c ≡ true → is_code c.value ≡ true → k.at ≡ z → k ≡ unit_key z
 unit_key_is k c z h code at =
     let of : is_of k.kind c.value ≡ true = suits-is_of k c h in
     let K : k.kind ≡ kind.Unit = same_kind k.kind kind.Unit (unit_kind k.kind c.value code of) in

@@ -6,9 +6,10 @@ mod StringRows
 pub mod Growing
 pub mod ReachWalks
 pub mod CodeAddresses
-mod Listings
+pub mod Listings
 pub mod Told
 pub mod Plain
+pub mod Units
 pub mod FreeBytes
 pub mod Proposing
 mod Candidates

@@ -169,7 +169,7 @@ in_order-blocks : (n : ℕ) (others : List Analyzer) → AreRising others → ar
 in_order-blocks n [] rising = refl
 in_order-blocks n (a ∷ others) rising = in_order-joined a 0 n (blocks n others) (λ x. all_of_blocks a x n others rising.0) (in_order-blocks n others rising.1)
 
-then_is : (o p : Ordering) → is_eq (ordering_then o p) ≡ (is_eq o && is_eq p)
+pub then_is : (o p : Ordering) → is_eq (ordering_then o p) ≡ (is_eq o && is_eq p)
 then_is Less p = refl
 then_is Equal p = refl
 then_is Greater p = refl

@@ -27,6 +27,7 @@ use Rattle.rvd_ask.specs.Reach.{reach, spans}
 use Rattle.rvd_ask.specs.Body.{body_rule, has_body, has_open_body, is_analysis, is_open, set_body}
 use Rattle.rvd_ask.specs.Strings.{is_read_at, string_changes, string_len, strings_rule}
 use Rattle.rvd_ask.specs.Rules.{is_sparing, rule, Spares, SparingLaw}
+use Rattle.rvd_ask.proofs.Units.{none_there}
 
 -- each change finds its cell in the program, and is sparing
 abbrev AreFound : Program → List Change → Type 0
@@ -58,10 +59,6 @@ spares S cs found = record {
 found-append : (S : Program) (cs ds : List Change) → AreFound S cs → AreFound S ds → AreFound S (cs ++ ds)
 found-append S [] ds found more = more
 found-append S (c ∷ cs) ds found more = (found.0, found.1, found-append S cs ds found.2 more)
-
-none_there : (o : Option Cell) → is_none o ≡ true → o ≡ None
-none_there None h = refl
-none_there (Some c) h = absurd (false≢true h)
 
 -- an addition at a key without a cell
 added : (S : Program) (k : Key) (v : Value) → is_none (cell_at S k) ≡ true → AreFound S (addition k v ∷ [])

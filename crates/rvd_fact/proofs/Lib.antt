@@ -4,6 +4,8 @@ pub mod Programs
 pub mod Scans
 pub mod Placing
 pub mod Validity
+pub mod Suiting
+pub mod NewUnits
 pub mod RangeLists
 pub mod RangeEquality
 pub mod RangeJoins

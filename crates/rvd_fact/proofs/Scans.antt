@@ -1,5 +1,5 @@
 -- What a scan of a program's entries finds, by the cells at its keys. Use `found` to get a key from a scan
--- that says yes, and `scanned` for the way back.
+-- that says yes, `scanned` for the way back, and `behind` for a key that is found behind an entry.
 use Rattle.std.proofs.Common.{◌≡◌, Bool, true, false, cond, ◌&&◌, [], ◌∷◌, Some, None, refl, sym, ap, ◌∙◌, inl, inr}
 use Rattle.std.specs.Prelude.{T}
 use Rattle.std.specs.List.{list_any}
@@ -12,6 +12,7 @@ use Rattle.rvd_fact.specs.declared.cells.Cell.{Cell}
 use Rattle.rvd_fact.specs.Order.{key_cmp, same_key}
 use Rattle.rvd_fact.specs.Program.{Program, cell_at, IsInOrder}
 use Rattle.rvd_fact.proofs.KeyOrder.{same_key_itself, cases_key}
+use Rattle.std.proofs.lemmas.Option.{none-some, same_Some}
 
 -- a cell that passes stands at some key
 pub record Found (p : Key × Cell → Bool) (S : Program) : Type 0 where
@@ -36,13 +37,10 @@ pub absent : (q : Key) (es : Program) → T (below_all key_cmp q es) → cell_at
 absent q [] h = refl
 absent q (e ∷ es) h = ap (λ (b : Bool). cond b (Some e.1) (cell_at es q)) (not_below q e.0 (first _ _ h)) ∙ absent q es (second _ _ h)
 
-None≢Some : (c : Cell) → None ≡ Some c → ⊥
-None≢Some c h = cc
-
 -- a key that is found behind an entry is another
-behind : (e : Key × Cell) (es : Program) (k : Key) (c : Cell) → T (below_all key_cmp e.0 es) → cell_at es k ≡ Some c → cell_at (e ∷ es) k ≡ Some c
+pub behind : (e : Key × Cell) (es : Program) (k : Key) (c : Cell) → T (below_all key_cmp e.0 es) → cell_at es k ≡ Some c → cell_at (e ∷ es) k ≡ Some c
 behind e es k c below here = elim (cases_key k e.0) [
-  | inl same ↦ absurd (None≢Some c (sym (absent e.0 es below) ∙ ap (cell_at es) (sym same) ∙ here))
+  | inl same ↦ absurd (none-some c (sym (absent e.0 es below) ∙ ap (cell_at es) (sym same) ∙ here))
   | inr other ↦ ap (λ (b : Bool). cond b (Some e.1) (cell_at es k)) other ∙ here
 ]
 
@@ -56,12 +54,9 @@ found p (e ∷ es) s h = elim (or_cases (p e) (list_any p es) h) [
       record { key = f.key; cell = f.cell; here = behind e es f.key f.cell (first _ _ s) f.here; passes = f.passes }
 ]
 
-same_Some : (c d : Cell) → Some c ≡ Some d → c ≡ d
-same_Some c d h = cc
-
 -- where such a cell stands, the scan says yes
 pub scanned : (p : Key × Cell → Bool) (S : Program) → Found p S → list_any p S ≡ true
-scanned p [] f = absurd (None≢Some f.cell f.here)
+scanned p [] f = absurd (none-some f.cell f.here)
 scanned p (e ∷ es) f = elim (cases_key f.key e.0) [
   | inl same ↦
       let here : Some e.1 ≡ Some f.cell = sym (ap (λ (b : Bool). cond b (Some e.1) (cell_at es f.key)) (ap (λ (k : Key). same_key k e.0) same ∙ same_key_itself e.0)) ∙ f.here in

@@ -17,14 +17,14 @@ use Rattle.rvd_fact.proofs.Scans.{found, Found}
 use Rattle.rvd_ask.specs.declared.asks.Analyzer.{Analyzer}
 use Rattle.rvd_ask.specs.declared.asks.Analyzer.TheVariants.{Flow, Refs, Funcs, Body, Strings}
 use Rattle.rvd_ask.specs.Wake.{candidate_of}
-use Rattle.rvd_wake.proofs.Suiting.{address_there, whole_there}
+use Rattle.rvd_fact.proofs.Suiting.{address_below, whole_there}
 
 absent : (S : Program) (k : Kind) (a : ℕ) → IsValid S → 4294967296 ≤ a → is_present (cell_at S (key_of k a)) ≡ false
 absent S k a valid above = none (cell_at S (key_of k a)) refl
   where
     none : (o : Option Cell) → cell_at S (key_of k a) ≡ o → is_present o ≡ false
     none None e = refl
-    none (Some c) e = let below : a < 4294967296 = address_there (key_of k a) c (valid.cells (key_of k a) c e) in absurd (omega arith)
+    none (Some c) e = let below : a < 4294967296 = address_below (key_of k a) c (valid.cells (key_of k a) c e) in absurd (omega arith)
 
 target_below : (at t : ℕ) (class : RefClass) (v : Value) → refers t class v ≡ true → is_whole at v ≡ true → t < 4294967296
 target_below at t class (Ref to own) h whole = subst (λ (x : ℕ). x < 4294967296) (eqb-true to t (and_parts (to == t) (class_rank own == class_rank class) h).0) (ltb-true to 4294967296 whole)

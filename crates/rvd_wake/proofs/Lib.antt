@@ -1,5 +1,4 @@
 mod Bools
-mod Suiting
 mod Members
 mod Picks
 mod Listed

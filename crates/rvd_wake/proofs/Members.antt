@@ -20,6 +20,7 @@ use Rattle.rvd_ask.specs.Unsettled.{are_in_order, comes_before, has_item, same_a
 use Rattle.rvd_ask.specs.Wake.{item}
 use Rattle.rvd_ask.proofs.ItemOrder.{derived_is}
 use Rattle.rvd_wake.specs.Walks.{Orders, has_place, is_at}
+use Rattle.rvd_ask.proofs.Listings.{then_is}
 
 all_before : (i : Item) (items : List Item) → AllByRecursion (λ j. item_cmp i j ≡ Less) items → list_all (comes_before i) items ≡ true
 all_before i [] h = refl
@@ -38,11 +39,6 @@ from_set items list set made same =
       in_order = ap are_in_order same ∙ in_order set.keys own.1;
       members = λ i. ap (has_item i) same ∙ own.0 i;
     }
-
-then_is : (o p : Ordering) → is_eq (ordering_then o p) ≡ (is_eq o && is_eq p)
-then_is Less p = refl
-then_is Equal p = refl
-then_is Greater p = refl
 
 is_eq-nat_cmp : (x y : ℕ) → is_eq (nat_cmp x y) ≡ (y == x)
 is_eq-nat_cmp x y = grind (arith, nat_tests)

@@ -23,7 +23,7 @@ use Rattle.rvd_ask.specs.Wake.{candidate_of}
 use Rattle.rvd_wake.specs.Walks.{AreJust}
 use Rattle.rvd_wake.specs.Picks.{called, candidate_place, data_at, is_func, is_unit, starts_flow}
 use Rattle.rvd_wake.proofs.Bools.{agree, any-filter_map, any_as, any_or}
-use Rattle.rvd_wake.proofs.Suiting.{sub_there}
+use Rattle.rvd_fact.proofs.Suiting.{sub_there}
 
 -- whether a cell is there and its value passes
 abbrev pub cell_passes : (Value → Bool) → Option Cell → Bool

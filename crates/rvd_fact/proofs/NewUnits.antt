@@ -17,9 +17,7 @@ use Rattle.rvd_fact.proofs.KeyOrder.{cases_key}
 use Rattle.rvd_fact.proofs.Placing.{Fails, first-placed}
 use Rattle.rvd_fact.proofs.Programs.{cell_at-placed, in_order-placed}
 use Rattle.rvd_fact.proofs.Validity.{cell_at_other, cell_at_placed, no_surround}
-
-same_cell : (c d : Cell) → Some c ≡ Some d → c ≡ d
-same_cell c d h = cc
+use Rattle.std.proofs.lemmas.Option.{same_Some}
 
 -- spans stay apart where the one that is new is apart from each other
 apart_with : (at new : ℕ → ℕ) (a : ℕ) → AreApart at → ((x : ℕ) → (x ≡ a → ⊥) → new x ≡ at x) → ((b : ℕ) → (b ≡ a → ⊥) → 0 < new b → (a + new a ≤ b) ⊎ (b + new b ≤ a)) → AreApart new
@@ -48,7 +46,7 @@ module _ (S : Program) (a : ℕ) (c : Cell) (valid : IsValid S) (own : suits (un
   no_block e = omega (arith, e)
 
   own_is : (d : Cell) → Some c ≡ Some d → suits (unit_key a) d ≡ true
-  own_is d is = sym (ap (suits (unit_key a)) (same_cell c d is)) ∙ own
+  own_is d is = sym (ap (suits (unit_key a)) (same_Some c d is)) ∙ own
 
   same_around : (x : ℕ) → first_where (surrounds x) there ≡ first_where (surrounds x) S
   same_around x =
@@ -103,7 +101,7 @@ module _ (S : Program) (a : ℕ) (c : Cell) (valid : IsValid S) (own : suits (un
 
     words : (x w : ℕ) (s : Source) → cell_at there (unit_key x) ≡ Some (record { value = Code w; source = s }) → word there x ≡ Some w
     words x w s h = same_word x ∙ elim (cases_eq x a) [
-      | inl same ↦ ap (word S) same ∙ says w s (same_cell c (record { value = Code w; source = s }) (sym (cell_at_placed S (unit_key a) (Some c)) ∙ ap (λ (y : ℕ). cell_at there (unit_key y)) (sym same) ∙ h))
+      | inl same ↦ ap (word S) same ∙ says w s (same_Some c (record { value = Code w; source = s }) (sym (cell_at_placed S (unit_key a) (Some c)) ∙ ap (λ (y : ℕ). cell_at there (unit_key y)) (sym same) ∙ h))
       | inr other ↦ valid.words x w s (sym (other_unit x other) ∙ h)
     ]
 

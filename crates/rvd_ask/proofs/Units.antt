@@ -1,5 +1,6 @@
 -- Units of a valid program: the values that stand for them, the bytes that they have, and bytes that none has. Use `unit_rank`,
--- `stands` and `unit_same` for values, and `free_at`, `unfree`, `uncovered` and `any_covers` for bytes.
+-- `stands` and `unit_same` for values, and `free_at`, `unfree`, `uncovered` and `any_covers` for bytes;
+-- `none_there` turns a test of a look-up into what it found.
 use Rattle.std.proofs.Common.{◌≡◌, ℕ, zero, suc, ◌+◌, ◌<◌, ◌≤◌, Bool, true, false, cond, ◌&&◌, ◌||◌, [], ◌∷◌, Option, Some, None, refl, sym, ap, ◌∙◌, inl, inr, arith}
 use Rattle.std.specs.Prelude.{find as first_where, is_none, nat_le}
 use Rattle.std.specs.List.{list_any}
@@ -125,16 +126,17 @@ unit_same (Bookmark text) w up h = absurd (omega (arith, up))
 unit_same (Ref to class) w up h = absurd (omega (arith, up))
 
 -- ---- bytes
-nothing : (o : Option ℕ) → is_none o ≡ true → o ≡ None
-nothing None h = refl
-nothing (Some c) h = absurd (false≢true h)
+-- where nothing is, there is None
+pub none_there : {A : Type 0} (o : Option A) → is_none o ≡ true → o ≡ None
+none_there None h = refl
+none_there (Some x) h = absurd (false≢true h)
 
 pub free_at : (S : Program) (n t x : ℕ) → is_free S t n ≡ true → t ≤ x → x < t + n → cover S x ≡ None
 free_at S zero t x h low high = absurd (omega (arith, low, high))
 free_at S (suc n) t x h low high =
     let parts = and_parts (is_none (cover S t)) (is_free S (t + 1) n) h in
     elim (cases_eq x t) [
-      | inl same ↦ ap (cover S) same ∙ nothing (cover S t) parts.0
+      | inl same ↦ ap (cover S) same ∙ none_there (cover S t) parts.0
       | inr other ↦ free_at S n (t + 1) x parts.1 (omega (arith, low, other)) (omega (arith, high))
     ]
 
