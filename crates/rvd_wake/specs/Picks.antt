@@ -31,9 +31,12 @@ abbrev pub is_func : Kind → Bool
 is_func kind.Func = true
 is_func k = false
 
--- the address of an entry where it is present and of a kind
+-- the address of an entry where a test says yes, and where it is present and of a kind
+abbrev pub at_if : Bool → Key → Option ℕ
+at_if picked k = if picked then Some k.at else None
+
 abbrev pub present_at : Bool → Key → Value → Option ℕ
-present_at of_kind k v = if of_kind && not (is_gone v) then Some k.at else None
+present_at of_kind k v = at_if (of_kind && not (is_gone v)) k
 
 -- the target of a call, and of a reference to data
 abbrev pub called : Value → Option ℕ
@@ -56,10 +59,6 @@ candidate_place Strings k v = data_at v
 abbrev pub is_body : Kind → Bool
 is_body kind.Body = true
 is_body k = false
-
--- the address of an entry where a test says yes
-abbrev pub at_if : Bool → Key → Option ℕ
-at_if picked k = if picked then Some k.at else None
 
 -- the place of a reference to t
 abbrev pub from_of : ℕ → Key → Value → Option ℕ

@@ -5,6 +5,7 @@ ghost use Rattle.rvd_wake.specs.Walks.{AreJust};
 ghost use Rattle.rvd_wake.specs.Picks.{starts_flow, is_unit, is_func, present_at, called, data_at, candidate_place as place_of};
 
 use crate::ordering::{add_items, ordered};
+use crate::places::at_if;
 use rvd_ask::{Analyzer, Item, listing_law};
 use rvd_fact::{Addr, Key, Kind, RefClass, Value};
 use rvd_program::{Kept, Program};
@@ -67,11 +68,7 @@ fn candidate_place(analyzer: Analyzer, key: &Key, value: &Value) -> Option<Addr>
 fn present_at(of_kind: bool, key: &Key, value: &Value) -> Option<Addr>
     ensures { result ≡ present_at of_kind key.now value.now }
 {
-    match value {
-        Value::Gone => None,
-        _ if of_kind => Some(key.at),
-        _ => None,
-    }
+    at_if(of_kind && !matches!(value, Value::Gone), key)
 }
 
 fn starts_flow(kind: Kind) -> bool

@@ -1,11 +1,11 @@
-ghost use Rattle.std.specs.Prelude.{◌≡◌, ◌<◌, ◌==◌, ◌&&◌, ◌||◌, [], ◌∷◌, IfOk, OnOk, is_none};
+ghost use Rattle.std.specs.Prelude.{◌≡◌, ◌^◌, ◌<◌, ◌==◌, ◌&&◌, ◌||◌, [], ◌∷◌, IfOk, OnOk, is_none};
 ghost use Rattle.std.specs.List.{list_any};
 ghost use Rattle.rvd_ask.specs.Places.{word_before};
 ghost use Rattle.rvd_ask.specs.Wake.{around, comes_near, comes_to, meets, wakes_flow};
 ghost use Rattle.rvd_wake.specs.Walks.{AreJust, Gain};
 
 use crate::candidate::candidate_places;
-use crate::froms::{froms_near, froms_of};
+use crate::froms::{WORD, froms_near, froms_of};
 use crate::gone::gone_from;
 use crate::places::only;
 use rvd_ask::Analyzer;
@@ -13,7 +13,11 @@ use rvd_fact::{Addr, Change, Kind};
 use rvd_program::Program;
 use std::alloc::{AllocError, Global};
 
+// The type of a bookmark of an error.
 const ERROR: u8 = 4;
+
+// How many addresses there are.
+const ADDRESSES: u64 = 0x1_0000_0000;
 
 /// Where a change wakes flow.
 pub fn flow_places(alloc: Global, after: &Program, change: &Change) -> Result<Vec<Addr>, AllocError>
@@ -64,17 +68,17 @@ fn add_words(places: &mut Vec<Addr>, at: Addr, n: u32) -> Result<(), AllocError>
     ensures { OnOk result (Gain (λ x. list_any (λ t. meets at n t && (x == t || x == word_before t)) (around at n)) places.old.items places.new.items) }
 {
     let at = u64::from(at);
-    let first = at - at % 4;
-    let count = (at % 4 + u64::from(n) + 3) / 4;
+    let first = at - at % WORD;
+    let count = (at % WORD + u64::from(n) + WORD - 1) / WORD;
     for k in 0..count {
-        add_word(places, first + 4 * k)?;
+        add_word(places, first + WORD * k)?;
     }
     Ok(())
 }
 
 // Adds an address, where it is one, and the word before it.
 fn add_word(places: &mut Vec<Addr>, word: u64) -> Result<(), AllocError>
-    requires { word < 8589934592 }
+    requires { word < 2 ^ 33 }
     ensures { OnOk result (Gain (λ x. x == word || x == word_before word) places.old.items places.new.items) }
 {
     if let Ok(at) = Addr::try_from(word) {
@@ -85,8 +89,8 @@ fn add_word(places: &mut Vec<Addr>, word: u64) -> Result<(), AllocError>
 }
 
 fn word_before(word: u64) -> Addr
-    requires { word < 8589934592 }
+    requires { word < 2 ^ 33 }
     ensures { result ≡ word_before word }
 {
-    ((word + 0xffff_fffc) % 0x1_0000_0000) as Addr
+    ((word + (ADDRESSES - WORD)) % ADDRESSES) as Addr
 }

@@ -7,7 +7,8 @@ use rvd_fact::{Addr, Key, Value};
 use rvd_program::Kept;
 use std::alloc::{AllocError, Global};
 
-const WORD: u64 = 4;
+/// How many bytes an instruction takes.
+pub const WORD: u64 = 4;
 
 /// The addresses that have a present reference to an address.
 pub fn froms_of(
