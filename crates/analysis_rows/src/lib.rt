@@ -7,6 +7,8 @@ mod flow;
 #[cfg(test)]
 mod functions;
 #[cfg(test)]
+mod judging;
+#[cfg(test)]
 mod listings;
 #[cfg(test)]
 mod references;

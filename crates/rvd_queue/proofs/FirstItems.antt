@@ -1,10 +1,10 @@
 -- The queued items from a start on: where none before it is queued, these are all of them. Use `queued_from` for a range of
 -- cells, and `from_first` for a later start.
-use Rattle.std.proofs.Common.{◌≡◌, ℕ, suc, ◌+◌, ◌<◌, get_or, Bool, true, false, cond, not, ◌&&◌, List, [], ◌∷◌, length, filter, map, take, slice_get, Option, Some, None, refl, sym, ap, ◌∙◌, subst, arith}
-use Rattle.std.proofs.lemmas.Bool.{and_from, and_parts, not-true, not_from_false}
+use Rattle.std.proofs.Common.{◌≡◌, ℕ, suc, ◌+◌, ◌<◌, get_or, Bool, true, false, cond, not, ◌&&◌, List, [], ◌∷◌, length, filter, map, take, slice_get, Option, Some, None, refl, sym, ap, ◌∙◌, subst, inl, inr, arith}
+use Rattle.std.proofs.lemmas.Bool.{and_from, and_parts, not-true, not_from_false, or_cases, or_left, or_right}
 use Rattle.std.proofs.lemmas.Bool.Decides.{nat_tests}
 use Rattle.std.proofs.lemmas.Cmp.{tied_itself, upto}
-use Rattle.std.proofs.lemmas.List.Folds.{list_all_more}
+use Rattle.std.proofs.lemmas.List.Folds.{list_all_more, list_any_kept, list_any_more}
 use Rattle.std.proofs.lemmas.List.{take-map}
 use Rattle.std.proofs.lemmas.Map.Keys.{sorted_head}
 use Rattle.std.specs.BTreeMap.{BTreeMap, values}
@@ -20,8 +20,9 @@ use Rattle.rvd_ask.specs.contracts.asks.ItemOrd.TheImpl.{cmp-value}
 use Rattle.rvd_ask.specs.declared.asks.Analyzer.{Analyzer}
 use Rattle.rvd_ask.specs.declared.asks.Analyzer.TheVariants.{Flow, Refs, Funcs, Body, Strings}
 use Rattle.rvd_ask.specs.declared.asks.Item.{Item}
-use Rattle.rvd_ask.specs.Order.{item_cmp}
-use Rattle.rvd_ask.proofs.ItemOrder.{items_total, derived_is}
+use Rattle.rvd_ask.specs.Order.{item_cmp, same_item}
+use Rattle.rvd_ask.specs.Unsettled.{has_item}
+use Rattle.rvd_ask.proofs.ItemOrder.{items_total, derived_is, same_item_itself}
 use Rattle.rvd_queue.specs.declared.cells.Cell.{Cell}
 use Rattle.rvd_queue.specs.Cells.{is_from, is_queued, queued_in}
 use Rattle.rvd_queue.specs.Sets.{with, with_all}
@@ -161,13 +162,14 @@ pub from_through : (a b i : Item) → is_from a b ≡ true → is_from b i ≡ t
 from_through a b i first second =
     not_from_false (is_lt (item_cmp i a)) (sym (gt_is a i) ∙ upto items_total a b i (gt_is a b ∙ not-true (is_lt (item_cmp b a)) first) (gt_is b i ∙ not-true (is_lt (item_cmp i b)) second))
 
--- nothing in a list comes before an item, nor does a start
+-- an item is the earliest of a start and a list
 pub record IsEarliest (first start : Item) (items : List Item) : Type 0 where
   pub from_start : is_from first start ≡ true
   pub from_items : list_all (is_from first) items ≡ true
+  pub one_of_them : has_item first (start ∷ items) ≡ true
 
 pub none_yet : (start : Item) → IsEarliest start start []
-none_yet start = record { from_start = from_itself start; from_items = refl }
+none_yet start = record { from_start = from_itself start; from_items = refl; one_of_them = or_left (same_item start start) false (same_item_itself start) }
 
 pub earlier : (first start : Item) (items : List Item) (i : ℕ) (d : Item) → i < length items → item_cmp (get_or items i d) first ≡ Less → IsEarliest first start (take i items) → IsEarliest (get_or items i d) start (take (i + 1) items)
 earlier first start items i d lt less before =
@@ -176,12 +178,17 @@ earlier first start items i d lt less before =
     record {
       from_start = from_through item first start step before.from_start;
       from_items = list_all_more (is_from item) items i d lt ∙ and_from (list_all (is_from item) (take i items)) (is_from item item) (all_weaker (is_from item) (is_from first) (λ j. from_through item first j step) (take i items) before.from_items) (from_itself item);
+      one_of_them = or_right (same_item item start) (has_item item (take (i + 1) items)) (list_any_more (same_item item) items i d lt ∙ or_right (has_item item (take i items)) (same_item item item) (same_item_itself item));
     }
 
 pub not_earlier : (first start : Item) (items : List Item) (i : ℕ) (d : Item) → i < length items → (item_cmp (get_or items i d) first ≡ Less → ⊥) → IsEarliest first start (take i items) → IsEarliest first start (take (i + 1) items)
 not_earlier first start items i d lt not_less before = record {
   from_start = before.from_start;
   from_items = list_all_more (is_from first) items i d lt ∙ and_from (list_all (is_from first) (take i items)) (is_from first (get_or items i d)) before.from_items (other (item_cmp (get_or items i d) first) not_less);
+  one_of_them = elim (or_cases (same_item first start) (has_item first (take i items)) before.one_of_them) [
+    | inl here ↦ or_left (same_item first start) (has_item first (take (i + 1) items)) here
+    | inr later ↦ or_right (same_item first start) (has_item first (take (i + 1) items)) (list_any_kept (same_item first) items i later)
+  ];
 }
   where
     other : (r : Ordering) → (r ≡ Less → ⊥) → not (is_lt r) ≡ true

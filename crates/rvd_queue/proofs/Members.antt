@@ -222,3 +222,9 @@ few_items test (e ∷ cells) =
       | true ↦ omega (arith, rest)
       | false ↦ omega (arith, rest)
     ]
+
+-- the changed item has a cell exactly where it is kept
+pub cell_if_kept : {old new : Cells} {i : Item} {o : Option Cell} → IsChange old new i o → is_some o ≡ passes is_kept o → has_item i (keys_of new) ≡ has_item i (kept_in new)
+cell_if_kept {old} {new} {i} {o} change only_kept =
+    let now : cell_at i new ≡ o = change.placed i ∙ ap (λ b. cond b o (cell_at i old)) (same_item_itself i) in
+    has_key i new ∙ ap is_some now ∙ only_kept ∙ sym (ap (passes is_kept) now) ∙ sym (has_item-items i is_kept new change.sorted)

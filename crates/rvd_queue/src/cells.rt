@@ -52,7 +52,8 @@ fn make_cells(cells: &mut BTreeMap<Item, Cell>, items: &[Item]) -> Result<(), Al
     Ok(())
 }
 
-/// Makes a cell for each item of two lists that has none. Where memory is refused, some may have been made.
+/// Makes a cell for each item of two lists that has none. Where memory is refused, some may have been made: these stay,
+/// in neither set.
 #[tactic(auto, using(crate::proofs::Members::have_still))]
 pub fn make_room(
     cells: &mut BTreeMap<Item, Cell>,
@@ -68,30 +69,6 @@ pub fn make_room(
     make_cells(cells, queued)?;
     make_cells(cells, kept)?;
     Ok(())
-}
-
-// Takes an item's cell away where the item is in neither set.
-fn drop_blank(cells: &mut BTreeMap<Item, Cell>, item: &Item)
-    requires { InOrder cells.old.entries }
-    ensures order { InOrder cells.new.entries }
-    ensures contents { contents_of cells.new.entries ≡ contents_of cells.old.entries }
-{
-    if let Some(cell) = cells.get(item).copied() {
-        if !cell.queued && !cell.kept {
-            cells.remove(item);
-        }
-    }
-}
-
-/// Takes the cells away of those items that are in neither set.
-pub fn drop_blanks(cells: &mut BTreeMap<Item, Cell>, items: &[Item])
-    requires { InOrder cells.old.entries }
-    ensures order { InOrder cells.new.entries }
-    ensures contents { contents_of cells.new.entries ≡ contents_of cells.old.entries }
-{
-    for item in items {
-        drop_blank(cells, item);
-    }
 }
 
 // Queues an item that has a cell. True where it wasn't queued yet.
@@ -161,12 +138,13 @@ pub fn keep_all(cells: &mut BTreeMap<Item, Cell>, items: &[Item])
     }
 }
 
-// Takes an item out of the queue. True where it was in it.
+// Takes an item out of the queue. True where it was in it. Its cell stays where it is kept.
 fn unqueue(cells: &mut BTreeMap<Item, Cell>, item: &Item) -> bool
     requires { InOrder cells.old.entries }
     ensures order { InOrder cells.new.entries }
     ensures queued { queued_in cells.new.entries ≡ without_all (item.now ∷ []) (queued_in cells.old.entries) }
     ensures kept { kept_in cells.new.entries ≡ kept_in cells.old.entries }
+    ensures cell { has_item item.now (keys_of cells.new.entries) ≡ has_item item.now (kept_in cells.new.entries) }
     ensures count { length (queued_in cells.new.entries) + (if result then 1 else 0) ≡ length (queued_in cells.old.entries) }
 {
     match cells.get(item).copied() {

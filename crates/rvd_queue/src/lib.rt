@@ -9,7 +9,8 @@
 //! * [`set_law`] says which items a set has after each operation.
 //!
 //! An item in either set has one cell, in an ordered map, which says whether it is queued and whether it is kept. So only
-//! `add_all` needs memory for cells, and it makes all of them before it changes a set. Adding and removing an item takes a
+//! `add_all` needs memory for cells, and it makes all of them before it changes a set; where it is refused some, those that
+//! it made stay, in neither set, for a later call. Adding and removing an item takes a
 //! time that grows as the logarithm of the number of cells. The queue remembers where its least item stands: `least`
 //! begins there, and passes only the items that it gives and those between them that are kept alone. `remove_all` moves
 //! this place on, past the items that are kept alone, and `add_all` moves it back where it has to. `keep_queued`,

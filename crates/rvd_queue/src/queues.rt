@@ -2,7 +2,7 @@ ghost use Rattle.std.specs.Prelude.{◌≡◌, [], length, take, IfOk, OnOk, OnE
 ghost use Rattle.rvd_queue.specs.Cells.{AreSets};
 ghost use Rattle.rvd_queue.specs.Sets.{with_all, without_all, without_analyzer};
 
-use crate::cells::{Cell, drop_blanks, keep_all, make_room, queue_all, unqueue_all};
+use crate::cells::{Cell, keep_all, make_room, queue_all, unqueue_all};
 use crate::reads::{count_queued, earliest, first_queued, least};
 use crate::sweeps::{forget, keep_queued, remove_analyzer, restore};
 use rvd_ask::{Analyzer, Item, Items};
@@ -54,11 +54,7 @@ impl Queues {
         ensures ok { OnOk result (self.new ≡ record { queued = with_all queued.now self.old.queued; kept = with_all kept.now self.old.kept }) }
         ensures err { OnErr result (self.new ≡ self.old) }
     {
-        if let Err(error) = make_room(&mut self.cells, queued, kept) {
-            drop_blanks(&mut self.cells, queued);
-            drop_blanks(&mut self.cells, kept);
-            return Err(error);
-        }
+        make_room(&mut self.cells, queued, kept)?;
         self.count += queue_all(&mut self.cells, queued);
         keep_all(&mut self.cells, kept);
         self.start = earliest(self.start, queued);

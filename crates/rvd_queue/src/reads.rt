@@ -1,5 +1,6 @@
-ghost use Rattle.std.specs.Prelude.{◌≡◌, true, length, slice_get, take, IfOk};
+ghost use Rattle.std.specs.Prelude.{◌≡◌, true, ◌∷◌, length, slice_get, take, IfOk};
 ghost use Rattle.std.specs.List.{list_all};
+ghost use Rattle.rvd_ask.specs.Unsettled.{has_item};
 ghost use Rattle.rvd_queue.specs.Cells.{InOrder, is_from, queued_in};
 
 use crate::cells::Cell;
@@ -42,10 +43,11 @@ pub fn first_queued(cells: &BTreeMap<Item, Cell>, start: Item) -> Option<Item>
     Some(*item)
 }
 
-/// An item that none of some items comes before, nor `start`.
+/// The earliest of some items and `start`.
 pub fn earliest(start: Item, items: &[Item]) -> Item
     ensures start { is_from result start ≡ true }
     ensures items { list_all (is_from result) items.now ≡ true }
+    ensures one_of_them { has_item result (start ∷ items.now) ≡ true }
 {
     let mut first = start;
     for item in items {

@@ -1,9 +1,9 @@
 -- An item that is kept has its cell written, and else its cell goes.
 use Rattle.std.proofs.Common.{◌≡◌, refl, sym, ap, ◌∙◌, Some, None, true, false}
-use Rattle.std.proofs.lemmas.Bool.{not-true}
+use Rattle.std.proofs.lemmas.Bool.{not-true, not-false}
 use Rattle.rvd_queue.specs.declared.cells.Cell.{Cell}
 use Rattle.rvd_queue.specs.Cells.{is_queued, is_kept}
-use Rattle.rvd_queue.proofs.Members.{by_update, by_write, found_is, map_in_order, unchanged, unqueued, without_one}
+use Rattle.rvd_queue.proofs.Members.{by_update, by_write, found_is, map_in_order, unchanged, unqueued, without_one, cell_if_kept}
 use Rattle.rvd_queue.proofs.cells.unqueue.Goals as goal
 
 pub returns-in-None-clause-queued : goal.returns-in-None-clause-queued
@@ -29,3 +29,12 @@ returns-in-Some-get_mut-clause-kept c = (unqueued (by_write c.args.cells.now c.g
 
 pub returns-in-Some-get_mut-clause-count : goal.returns-in-Some-get_mut-clause-count
 returns-in-Some-get_mut-clause-count c = (unqueued (by_write c.args.cells.now c.get_mut.follows.lender c.args.item.now c.in-Some-get_mut.place.now (record { queued = false; kept = c.in-Some.cell.kept }) c.requires c.in-Some-get_mut.ensures.value (c.get_mut.follows.holds _)) c.in-Some.cell (found_is c.args.cells.now c.args.item.now (Some c.in-Some.cell) (sym c.in-Some.is ∙ c.copied.ensures ∙ c.get.ensures.value)) refl refl).count
+
+pub returns-in-None-clause-cell : goal.returns-in-None-clause-cell
+returns-in-None-clause-cell c = cell_if_kept (unchanged c.args.cells.now.entries c.args.item.now None c.requires (found_is c.args.cells.now c.args.item.now None (sym c.in-None.is ∙ c.copied.ensures ∙ c.get.ensures.value))) refl
+
+pub returns-then-not-cell-clause-cell : goal.returns-then-not-cell-clause-cell
+returns-then-not-cell-clause-cell c = cell_if_kept (by_update c.args.cells.now c.remove.new.self c.args.item.now None c.requires c.remove.ensures.ordered c.remove.ensures.updates) refl
+
+pub returns-in-Some-get_mut-clause-cell : goal.returns-in-Some-get_mut-clause-cell
+returns-in-Some-get_mut-clause-cell c = cell_if_kept (by_write c.args.cells.now c.get_mut.follows.lender c.args.item.now c.in-Some-get_mut.place.now (record { queued = false; kept = c.in-Some.cell.kept }) c.requires c.in-Some-get_mut.ensures.value (c.get_mut.follows.holds _)) (sym (not-false c.in-Some.cell.kept c.if-not-cell.false))

@@ -1,0 +1,7 @@
+pub mod Among
+pub mod RuleLengths
+pub mod Queues
+pub mod Outcomes
+pub mod BatchLemmas
+pub mod Misfits
+pub mod Legal

@@ -1,0 +1,20 @@
+//! The verdicts of an offer: what becomes of the proposals for a job's items, and what follows from it.
+//!
+//! * [`judge`] judges one proposal for each item of a job, in order, on the working program as the earlier ones left it. It
+//!   asks each read of the working program once, and the job's program only at the one that differs; no rule is run again.
+//! * [`misfit`] is the first place where the items of proposals aren't those of a job.
+//!
+//! Which verdict is the exact one, and what a batch becomes by it, is defined in rvd_machine (`Exact`, `Verdicts`). The
+//! definitions in `specs/` say it of what a call can hand out: `Effects` has the changes that verdicts apply and the items
+//! that they add to the queue, `Batches` the batch before its first verdict, and `Differing` the verdict at the first read
+//! that differs.
+#![tactic(auto)]
+
+mod joining;
+mod judging;
+mod places;
+mod reads;
+
+pub use judging::judge;
+pub use places::misfit;
+pub use std::alloc::AllocError as OutOfMemory;

@@ -1,8 +1,0 @@
-use Rattle.std.proofs.Common.{◌≡◌, ◌+◌, ◌≤◌, true, length, take, drop}
-use Rattle.std.specs.Map.{keys_of}
-use Rattle.rvd_queue.specs.Cells.{InOrder, KeepsCells, contents_of, have_cells, queued_in, kept_in}
-use Rattle.rvd_queue.specs.Sets.{with_all, without_all}
-use Rattle.rvd_queue.proofs.cells.drop_blanks.Given as goal
-
-abbrev pub invariant-loop-item : goal.invariant-loop-item
-invariant-loop-item l = record { order : InOrder l.cells.entries; contents : contents_of l.cells.entries ≡ contents_of l.initial.cells.entries }
