@@ -23,7 +23,7 @@ enum Shown {
     Other,
 }
 
-fn shown(verdict: &Verdict) -> Shown {
+fn told(verdict: &Verdict) -> Shown {
     match verdict {
         Verdict::Joined(changes) => Shown::Joined(*changes),
         Verdict::Nothing => Shown::Nothing,
@@ -100,7 +100,7 @@ fn offered(
         &mut changes,
     )?;
     let verdict = match verdicts.list() {
-        [verdict] => shown(verdict),
+        [verdict] => told(verdict),
         _ => Shown::Other,
     };
     Ok((verdict, again, changes.len()))
