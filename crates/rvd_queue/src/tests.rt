@@ -89,11 +89,9 @@ fn jobs(alloc: Global, taken: &Taken<u8>) -> Result<Vec<(u64, u8)>, AllocError> 
 fn jobs_stay_in_order_of_taking(rt: HostRuntime) -> Result<(), Fail> {
     let alloc = rt.alloc();
     let mut taken = Taken::new(alloc)?;
-    for (ticket, program) in [(7, b'a'), (3, b'b'), (5, b'c')] {
-        if taken.find(ticket).is_none() {
-            taken.put(ticket, Items::of(alloc, vec![in alloc; FLOW_4]?)?, program)?;
-        }
-    }
+    taken.put(7, Items::of(alloc, vec![in alloc; FLOW_4]?)?, b'a')?;
+    taken.put(3, Items::of(alloc, vec![in alloc; FLOW_4]?)?, b'b')?;
+    taken.put(5, Items::of(alloc, vec![in alloc; FLOW_4]?)?, b'c')?;
     assert!(rt; jobs(alloc, &taken)?.as_slice() == [(7, b'a'), (3, b'b'), (5, b'c')].as_slice());
     taken.drop_ticket(3);
     taken.drop_ticket(4);
