@@ -1,3 +1,5 @@
+ghost use Rattle.std.specs.Prelude.{◌≤◌};
+
 use rvd_ask::{Analyzer, Item};
 use rvd_elf::import;
 use rvd_fact::{Addr, Cell, Change, Key, Kind, RangeSet, RefClass, Source, Value};
@@ -51,7 +53,9 @@ fn body(
     first: Addr,
     last: Addr,
     source: Source,
-) -> Result<Change, AllocError> {
+) -> Result<Change, AllocError>
+    requires { first ≤ last }
+{
     let mut ranges = RangeSet::new(alloc);
     ranges.add(first, last)?;
     Ok(added(at, Kind::Body, Value::Body(ranges), source))
