@@ -26,7 +26,7 @@ const BRANCH: u32 = 0x0000_0463;
 const RETURN: u32 = 0x0000_8067;
 
 fn word(index: u32, count: u32) -> u32 {
-    if count - index <= 2 {
+    if count.saturating_sub(index) <= 2 {
         RETURN
     } else if index % 16 == 8 {
         BRANCH
