@@ -7,11 +7,10 @@ use Rattle.std.proofs.Math.Nat.{eq-or-lt_of_le}
 use Rattle.std.proofs.lemmas.Bool.{false≢true, ltb-true}
 use Rattle.std.proofs.lemmas.Bool.Decides.{nat_tests}
 use Rattle.rvd_fact.specs.declared.cells.Cell.{Cell}
-use Rattle.rvd_fact.specs.declared.values.Source.{Source}
 use Rattle.rvd_fact.specs.declared.values.Value.{Value}
 use Rattle.rvd_fact.specs.declared.values.Value.TheVariants.{Block, Mark, Func, Body, Symbol, Comment, Bookmark, Code, Plain, Ref, Gone}
 use Rattle.rvd_fact.specs.Program.{Program, cell_at}
-use Rattle.rvd_listing.specs.Names.{symbol_key, slots, priority, name_of, is_symbol, best_below, better, primary, IsPrimary, HasNoSymbol, PrimaryLaw}
+use Rattle.rvd_listing.specs.Names.{symbol_key, slots, priority, name_of, is_symbol, best_below, better, IsPrimary, HasNoSymbol, PrimaryLaw}
 
 -- the best symbol of the slots below n
 record IsBest (S : Program) (a n : ℕ) (c : Cell) : Type 0 where

@@ -1,3 +1,4 @@
 pub mod Slots
 pub mod Primary
 pub mod BestSymbol
+pub mod NextUnit

@@ -1,10 +1,9 @@
 -- The best symbol of an address. Use `best_below-gap` to pass over empty slots, and `primary_law` for what the
 -- primary name means.
-use Rattle.std.proofs.Common.{◌≡◌, ℕ, zero, suc, ◌+◌, ◌-◌, ◌<◌, ◌≤◌, Bool, true, false, cond, ◌&&◌, Option, Some, None, IfSome, IfNone, List, refl, sym, ap, ◌∙◌, subst, inl, inr, ◌⊎◌, arith}
-use Rattle.std.specs.Prelude.{nat_lt}
+use Rattle.std.proofs.Common.{◌≡◌, ℕ, zero, suc, ◌+◌, ◌-◌, ◌≤◌, Option, Some, None, refl, sym, ap, ◌∙◌, arith}
 use Rattle.rvd_fact.specs.declared.cells.Cell.{Cell}
 use Rattle.rvd_fact.specs.Program.{Program, cell_at}
-use Rattle.rvd_listing.specs.Names.{symbol_key, slots, best_below, better, primary, IsPrimary, HasNoSymbol, PrimaryLaw}
+use Rattle.rvd_listing.specs.Names.{symbol_key, slots, best_below, better}
 use Rattle.rvd_listing.specs.Answers.{HasNoCellFrom}
 
 -- a slot without a cell changes nothing

@@ -1,6 +1,6 @@
 -- The slots for symbols of an address, in the order of keys. Use `next_symbol` and `no_symbol` for what the
 -- entry of the least key that isn't below a slot tells of the slots from there on.
-use Rattle.std.proofs.Common.{◌≡◌, ℕ, ◌<◌, ◌≤◌, Bool, true, false, Option, Some, None, IfSome, refl, sym, ap, ◌∙◌, subst, inl, inr, ◌⊎◌, arith}
+use Rattle.std.proofs.Common.{◌≡◌, ℕ, ◌<◌, ◌≤◌, Option, Some, None, IfSome, refl, sym, ap, ◌∙◌, subst, inl, inr, ◌⊎◌, arith}
 use Rattle.std.specs.Prelude.{T}
 use Rattle.std.specs.declared.cmp.Ordering.{Ordering}
 use Rattle.std.specs.declared.cmp.Ordering.TheVariants.{Less, Equal, Greater}
@@ -9,7 +9,6 @@ use Rattle.std.specs.Cmp.{nat_cmp_is}
 use Rattle.std.proofs.lemmas.Cmp.{ranked}
 use Rattle.rvd_table.specs.Table.{IsNext}
 use Rattle.rvd_table.proofs.MapLaws.{next_entry-nearest}
-use Rattle.rvd_fact.specs.declared.keys.Kind.{Kind}
 use Rattle.rvd_fact.specs.declared.keys.Kind.TheVariants as kind
 use Rattle.rvd_fact.specs.declared.keys.Key.{Key}
 use Rattle.rvd_fact.specs.declared.cells.Cell.{Cell}

@@ -16,7 +16,8 @@ pub fn unit_at(program: &Program, at: Addr) -> Option<Addr>
     program.cover(at)
 }
 
-fn is_gone(cell: &Cell) -> bool
+/// Whether a cell is what a deleted fact left behind.
+pub fn is_gone(cell: &Cell) -> bool
     ensures { result ≡ is_gone cell.now.value }
 {
     matches!(cell.value, Value::Gone)
