@@ -5,7 +5,7 @@ use rvd_program::Program;
 use std::alloc::{AllocError, Global};
 use std::test::Fail;
 
-const START: Addr = 0x10054;
+pub const START: Addr = 0x10054;
 
 fn crosses_threads<T: Send + Sync>() {}
 
@@ -14,11 +14,11 @@ fn programs_may_cross_threads() {
     crosses_threads::<Program>();
 }
 
-fn key(at: Addr, kind: Kind, sub: u8) -> Key {
+pub fn key(at: Addr, kind: Kind, sub: u8) -> Key {
     Key { at, kind, sub }
 }
 
-fn name(alloc: Global, word: &str) -> Result<Value, Fail> {
+pub fn name(alloc: Global, word: &str) -> Result<Value, Fail> {
     let bytes = Vec::from_slice(alloc, word.as_bytes())?;
     if bytes.len() > 1000 {
         return Err(Fail::from("a long word"));
@@ -46,7 +46,7 @@ fn change(
 }
 
 // Puts a cell at a key, or takes it away, where that fits, and tells whether it does.
-fn put(
+pub fn put(
     alloc: Global,
     program: &mut Program,
     key: Key,
@@ -60,7 +60,7 @@ fn put(
     Ok(true)
 }
 
-fn by_user(value: Value) -> Option<Cell> {
+pub fn by_user(value: Value) -> Option<Cell> {
     let source = Source::UserDefined;
     Some(Cell { value, source })
 }
@@ -75,7 +75,7 @@ fn room(len: u32, bytes: Option<Bytes>) -> Value {
 }
 
 // The words 00100513 008000ef 0000006f 00008067.
-fn memory(alloc: Global) -> Result<Value, AllocError> {
+pub fn memory(alloc: Global) -> Result<Value, AllocError> {
     let bytes = [
         0x13, 5, 16, 0, 0xef, 0, 128, 0, 0x6f, 0, 0, 0, 0x67, 128, 0, 0,
     ];
