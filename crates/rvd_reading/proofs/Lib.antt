@@ -1,0 +1,4 @@
+pub mod Decimals
+pub mod NumbersBack
+pub mod TextsBack
+pub mod WordsBack

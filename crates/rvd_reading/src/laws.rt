@@ -1,0 +1,8 @@
+ghost use Rattle.rvd_reading.specs.Laws.{NumberLaw, TextLaw, WordLaw};
+
+/// What is printed is read back.
+pub fn reading_law()
+    ensures words { WordLaw }
+    ensures numbers { NumberLaw }
+    ensures texts { TextLaw }
+{}
