@@ -26,7 +26,7 @@ hex8-back n rest small =
     ∙ ap (λ (o : Option ℕ). o >>= (λ m. Some (m, rest))) (hex_of-hex8 n small)
 
 -- a decimal number has digits alone
-decimal_digits : (n : ℕ) → n < 2 ^ 64 → list_all is_ascii_digit (decimal n) ≡ true
+pub decimal_digits : (n : ℕ) → n < 2 ^ 64 → list_all is_ascii_digit (decimal n) ≡ true
 decimal_digits = decimal_by_steps (λ m ds. list_all is_ascii_digit ds ≡ true) (λ m l. one_digit m l) (λ m ds l h. rw (list_all-append, h) (one_digit (m % 10) (omega arith)))
   where
     one_digit : (d : ℕ) → d < 10 → list_all is_ascii_digit ((48 + d) ∷ []) ≡ true

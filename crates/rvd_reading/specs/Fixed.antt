@@ -17,6 +17,19 @@ abbrev pub fixed : {A : Type 0} → List (List ℕ × A) → List ℕ → Step A
 fixed [] bytes = None
 fixed (entry ∷ entries) bytes = if starts_with nat_eq bytes entry.0 then Some (entry.1, drop (length entry.0) bytes) else fixed entries bytes
 
+-- what stands behind the first word of a list that the bytes begin with is read by that word's reader; where they begin with
+-- none of them, all is read by another
+abbrev pub choose : {A : Type 0} → List (List ℕ × (List ℕ → Step A)) → (List ℕ → Step A) → List ℕ → Step A
+choose [] other bytes = other bytes
+choose (entry ∷ entries) other bytes = if starts_with nat_eq bytes entry.0 then entry.1 (drop (length entry.0) bytes) else choose entries other bytes
+
+-- readers that take no byte: of this one, and of none
+abbrev pub just : {A : Type 0} → A → List ℕ → Step A
+just x rest = Some (x, rest)
+
+abbrev pub nothing : {A : Type 0} → List ℕ → Step A
+nothing rest = None
+
 abbrev pub kinds : List (List ℕ × Kind)
 kinds =
     (codes "block", kind.Block)

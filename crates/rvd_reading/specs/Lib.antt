@@ -3,4 +3,7 @@ pub mod Fixed
 pub mod Numbers
 pub mod Quotes
 pub mod Keys
+pub mod Facts
+pub mod Actors
+pub mod Lists
 pub mod Laws

@@ -1,8 +1,10 @@
-ghost use Rattle.rvd_reading.specs.Laws.{NumberLaw, TextLaw, WordLaw};
+ghost use Rattle.rvd_reading.specs.Laws.{FactLaw, NumberLaw, PlaceLaw, TextLaw, WordLaw};
 
 /// What is printed is read back.
 pub fn reading_law()
     ensures words { WordLaw }
     ensures numbers { NumberLaw }
     ensures texts { TextLaw }
+    ensures facts { FactLaw }
+    ensures places { PlaceLaw }
 {}

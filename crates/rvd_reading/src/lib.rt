@@ -2,28 +2,35 @@
 //!
 //! * [`Rest`] is what is left of a text. Each reader takes its part from the front, and gives it.
 //! * [`kind`], [`source`], [`class`] and [`analyzer`] read fixed words; [`hex8`] and [`number`] read numbers, [`quoted`] a quoted
-//!   text, and [`key`] a key.
+//!   text, [`key`] a key and [`range`] a range; [`perm`], [`form`], [`comment_kind`] and [`bookmark_type`] read parts of facts, and
+//!   [`actor`] an actor.
 //!
 //! A reader may read more than what is printed, as digits of upper case or leading zeros. Whether a text is spelled as it is
 //! printed, a caller tells by printing what was read.
 //!
-//! The definitions that the contracts cite stand in `specs/`: `Steps` for readers in general, `Fixed`, `Numbers`, `Quotes` and
-//! `Keys` for each part, and `Laws` for what is read back, which [`reading_law`] states.
+//! The definitions that the contracts cite stand in `specs/`: `Steps` for readers in general, `Fixed`, `Numbers`, `Quotes`, `Keys`,
+//! `Facts`, `Actors` and `Lists` for each part, and `Laws` for what is read back, which [`reading_law`] states.
 #![tactic(auto)]
 
+mod actors;
 mod errors;
+mod facts;
 mod fixed_words;
 mod keys;
 mod laws;
 mod numbers;
 mod quotes;
+mod ranges;
 mod rest;
 
+pub use actors::actor;
 pub use errors::{ReadError, Unread};
+pub use facts::{bookmark_type, comment_kind, form, perm};
 pub use fixed_words::{analyzer, class, kind, source};
 pub use keys::key;
 pub use laws::reading_law;
 pub use numbers::{hex8, number};
 pub use quotes::quoted;
+pub use ranges::range;
 pub use rest::Rest;
 pub use std::alloc::AllocError as OutOfMemory;

@@ -1,3 +1,5 @@
+use Rattle.rvd_reading.proofs.ActorsBack.{place_law}
+use Rattle.rvd_reading.proofs.FactsBack.{fact_law}
 use Rattle.rvd_reading.proofs.NumbersBack.{number_law}
 use Rattle.rvd_reading.proofs.TextsBack.{text_law}
 use Rattle.rvd_reading.proofs.WordsBack.{word_law}
@@ -11,3 +13,9 @@ returns-clause-numbers c = number_law
 
 pub returns-clause-texts : goal.returns-clause-texts
 returns-clause-texts c = text_law
+
+pub returns-clause-facts : goal.returns-clause-facts
+returns-clause-facts c = fact_law
+
+pub returns-clause-places : goal.returns-clause-places
+returns-clause-places c = place_law
