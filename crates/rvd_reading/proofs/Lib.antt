@@ -5,3 +5,7 @@ pub mod WordsBack
 pub mod Choices
 pub mod FactsBack
 pub mod ActorsBack
+pub mod ListSteps
+pub mod ListsBack
+pub mod SetsBack
+pub mod ValuesBack

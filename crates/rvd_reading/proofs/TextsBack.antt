@@ -1,18 +1,18 @@
 -- Quoted texts and keys are read back. Use `text_law`.
-use Rattle.std.proofs.Common.{◌≡◌, ℕ, zero, suc, ◌+◌, ◌/◌, ◌%◌, ◌^◌, ◌<◌, ◌≤◌, Bool, true, false, cond, ◌&&◌, List, [], ◌∷◌, ◌++◌, Option, Some, None, length, take, drop, codes, refl, sym, ap, ◌∙◌, subst, arith, append_assoc, length-append}
-use Rattle.std.specs.Prelude.{◌==◌, flat_map, nat_le, nat_lt}
+use Rattle.std.proofs.Common.{◌≡◌, ℕ, suc, ◌+◌, ◌/◌, ◌%◌, ◌^◌, ◌<◌, ◌≤◌, true, false, List, [], ◌∷◌, ◌++◌, Option, Some, length, take, drop, codes, refl, ap, ◌∙◌, arith, append_assoc, length-append}
+use Rattle.std.specs.Prelude.{◌==◌, flat_map, nat_le}
 use Rattle.std.specs.List.{All, AllByRecursion}
 use Rattle.std.specs.Char.{digit_char}
 use Rattle.std.specs.Fmt.{decimal}
 use Rattle.std.proofs.Math.Seq.{take-append_seam, drop-append_seam}
 use Rattle.std.proofs.lemmas.Bool.Decides.{nat_tests}
-use Rattle.std.proofs.lemmas.Bool.{cond_both, eqb-true}
+use Rattle.std.proofs.lemmas.Bool.{cond_both}
 use Rattle.rvd_text.specs.Hex.{hex8}
 use Rattle.rvd_text.specs.Quoted.{is_plain, quoted, spelled, text_of}
 use Rattle.rvd_text.proofs.Quotes.{text_of-quoted}
 use Rattle.rvd_fact.specs.declared.keys.Key.{Key}
 use Rattle.rvd_notation.specs.Words.{key_text, kind_word}
-use Rattle.rvd_reading.specs.Steps.{◌>>=◌, behind}
+use Rattle.rvd_reading.specs.Steps.{◌>>=◌}
 use Rattle.rvd_reading.specs.Numbers.{begins_with_digit}
 use Rattle.rvd_reading.specs.Quotes.{quote_len, quoted_len, quoted_of, short}
 use Rattle.rvd_reading.specs.Keys.{key_of}

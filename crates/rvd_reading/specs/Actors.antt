@@ -1,5 +1,5 @@
 -- An actor at the front of a text: a session or a worker by its number, counted from 1.
-use Rattle.std.specs.Prelude.{ℕ, ◌+◌, ◌&&◌, nat_lt, List, [], ◌∷◌, Option, Some, None, if◌then◌else◌, codes}
+use Rattle.std.specs.Prelude.{ℕ, ◌+◌, ◌&&◌, nat_lt, List, [], ◌∷◌, Some, None, if◌then◌else◌, codes}
 use Rattle.rvd_event.specs.declared.queries.Names.{Names}
 use Rattle.rvd_reading.specs.Steps.{◌>>=◌, Step}
 use Rattle.rvd_reading.specs.Fixed.{choose, nothing}

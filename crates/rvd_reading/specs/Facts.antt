@@ -1,5 +1,5 @@
 -- Parts of facts at the front of a text: permissions, forms of units, and the kinds of comments and types of bookmarks.
-use Rattle.std.specs.Prelude.{ℕ, ◌<◌, Bool, true, false, List, [], ◌∷◌, Option, Some, None, codes}
+use Rattle.std.specs.Prelude.{ℕ, ◌<◌, Bool, true, false, List, [], ◌∷◌, Some, codes}
 use Rattle.rvd_fact.specs.declared.values.Form.{Form}
 use Rattle.rvd_fact.specs.declared.values.Form.TheVariants.{Byte, Half, Word, Str}
 use Rattle.rvd_fact.specs.declared.values.Perm.{Perm}

@@ -1,6 +1,6 @@
 -- Fixed words by their lists: the words of kinds, sources, classes and analyzers, and the forms of units. No word of a list
 -- begins with another one of it.
-use Rattle.std.specs.Prelude.{ℕ, nat_eq, List, [], ◌∷◌, length, drop, Option, Some, None, if◌then◌else◌, codes}
+use Rattle.std.specs.Prelude.{ℕ, nat_eq, List, [], ◌∷◌, length, drop, Some, None, if◌then◌else◌, codes}
 use Rattle.std.specs.List.{starts_with}
 use Rattle.rvd_fact.specs.declared.keys.Kind.{Kind}
 use Rattle.rvd_fact.specs.declared.keys.Kind.TheVariants as kind

@@ -1,5 +1,5 @@
 -- A key at the front of a text: its kind, its address and its number, with a space between two of them.
-use Rattle.std.specs.Prelude.{ℕ, List, Option, Some, None, codes}
+use Rattle.std.specs.Prelude.{ℕ, List, Some, codes}
 use Rattle.rvd_fact.specs.declared.keys.Key.{Key}
 use Rattle.rvd_reading.specs.Steps.{◌>>=◌, Step, behind}
 use Rattle.rvd_reading.specs.Fixed.{fixed, kinds}

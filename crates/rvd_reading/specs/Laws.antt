@@ -1,18 +1,21 @@
 -- What is printed is read back, whatever stands behind it; behind a number, no digit may stand.
-use Rattle.std.specs.Prelude.{◌≡◌, ℕ, ◌+◌, ◌^◌, ◌<◌, ◌≤◌, Bool, true, false, List, ◌++◌, length, Option, Some}
-use Rattle.std.specs.List.{All}
+use Rattle.std.specs.Prelude.{◌≡◌, ℕ, ◌+◌, ◌^◌, ◌<◌, ◌≤◌, nat_eq, true, false, List, ◌∷◌, ◌++◌, length, Some, codes}
+use Rattle.std.specs.List.{All, starts_with}
 use Rattle.std.specs.Fmt.{decimal}
 use Rattle.rvd_text.specs.Hex.{hex8}
 use Rattle.rvd_text.specs.Quoted.{quoted}
 use Rattle.rvd_fact.specs.declared.keys.Kind.{Kind}
 use Rattle.rvd_fact.specs.declared.keys.Key.{Key}
 use Rattle.rvd_fact.specs.declared.values.Source.{Source}
+use Rattle.rvd_fact.specs.declared.cells.Cell.{Cell}
 use Rattle.rvd_fact.specs.declared.values.Form.{Form}
 use Rattle.rvd_fact.specs.declared.values.Perm.{Perm}
 use Rattle.rvd_fact.specs.declared.values.RefClass.{RefClass}
+use Rattle.rvd_fact.specs.Ranges.{is_range_set}
 use Rattle.rvd_ask.specs.declared.asks.Analyzer.{Analyzer}
 use Rattle.rvd_event.specs.declared.queries.Names.{Names}
-use Rattle.rvd_notation.specs.Words.{bookmark_word, class_word, comment_word, form_words, key_text, kind_word, perm_word, range_text, source_word}
+use Rattle.rvd_notation.specs.Words.{bookmark_word, class_word, comment_word, form_words, key_text, kind_word, perm_word, range_text, ranges_text, source_word}
+use Rattle.rvd_notation.specs.Values.{value_text}
 use Rattle.rvd_notation.specs.Actors.{actor_text, analyzer_word}
 use Rattle.rvd_reading.specs.Fixed.{analyzers, classes, fixed, kinds, sources}
 use Rattle.rvd_reading.specs.Numbers.{begins_with_digit, hex8_of, number_of}
@@ -20,7 +23,8 @@ use Rattle.rvd_reading.specs.Quotes.{quoted_of}
 use Rattle.rvd_reading.specs.Keys.{key_of}
 use Rattle.rvd_reading.specs.Facts.{FitsForm, bookmark_type_of, comment_kind_of, form_of, perm_of}
 use Rattle.rvd_reading.specs.Actors.{actor_of}
-use Rattle.rvd_reading.specs.Lists.{range_of}
+use Rattle.rvd_reading.specs.Lists.{range_of, ranges_of}
+use Rattle.rvd_reading.specs.Values.{FitsValue, bare, cell_of}
 
 pub record WordLaw : Type 0 where
   pub kind : (k : Kind) (rest : List ℕ) → fixed kinds (kind_word k ++ rest) ≡ Some (k, rest)
@@ -45,3 +49,8 @@ pub record FactLaw : Type 0 where
 pub record PlaceLaw : Type 0 where
   pub actor : (names : Names) (actor : ℕ) (rest : List ℕ) → 0 < actor → actor ≤ names.sessions + names.workers → actor < 2 ^ 32 → begins_with_digit rest ≡ false → actor_of names (actor_text names actor ++ rest) ≡ Some (actor, rest)
   pub range : (r : ℕ × ℕ) (rest : List ℕ) → r.0 < 2 ^ 32 → r.1 < 2 ^ 32 → range_of (range_text r ++ rest) ≡ Some (r, rest)
+
+-- behind a cell a bracket closes. Of a block, its text tells all but the bytes
+pub record CellLaw : Type 0 where
+  pub ranges : (rs : List (ℕ × ℕ)) (rest : List ℕ) → is_range_set rs ≡ true → starts_with nat_eq rest (codes ",") ≡ false → ranges_of (ranges_text rs ++ rest) ≡ Some (rs, rest)
+  pub cell : (k : Key) (c : Cell) (more : List ℕ) → k.sub < 256 → FitsValue c.value → cell_of (value_text k c ++ 93 ∷ more) ≡ Some (record { source = c.source; value = bare c.value }, 93 ∷ more)

@@ -6,4 +6,5 @@ pub mod Keys
 pub mod Facts
 pub mod Actors
 pub mod Lists
+pub mod Values
 pub mod Laws

@@ -1,4 +1,4 @@
-ghost use Rattle.rvd_reading.specs.Laws.{FactLaw, NumberLaw, PlaceLaw, TextLaw, WordLaw};
+ghost use Rattle.rvd_reading.specs.Laws.{CellLaw, FactLaw, NumberLaw, PlaceLaw, TextLaw, WordLaw};
 
 /// What is printed is read back.
 pub fn reading_law()
@@ -7,4 +7,5 @@ pub fn reading_law()
     ensures texts { TextLaw }
     ensures facts { FactLaw }
     ensures places { PlaceLaw }
+    ensures cells { CellLaw }
 {}

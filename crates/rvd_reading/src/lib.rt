@@ -2,14 +2,14 @@
 //!
 //! * [`Rest`] is what is left of a text. Each reader takes its part from the front, and gives it.
 //! * [`kind`], [`source`], [`class`] and [`analyzer`] read fixed words; [`hex8`] and [`number`] read numbers, [`quoted`] a quoted
-//!   text, [`key`] a key and [`range`] a range; [`perm`], [`form`], [`comment_kind`] and [`bookmark_type`] read parts of facts, and
-//!   [`actor`] an actor.
+//!   text, [`key`] a key, [`range`] a range and [`ranges`] a set of addresses; [`perm`], [`form`], [`comment_kind`] and [`bookmark_type`] read parts of facts, and
+//!   [`actor`] an actor. [`cell`] reads a whole cell.
 //!
 //! A reader may read more than what is printed, as digits of upper case or leading zeros. Whether a text is spelled as it is
 //! printed, a caller tells by printing what was read.
 //!
 //! The definitions that the contracts cite stand in `specs/`: `Steps` for readers in general, `Fixed`, `Numbers`, `Quotes`, `Keys`,
-//! `Facts`, `Actors` and `Lists` for each part, and `Laws` for what is read back, which [`reading_law`] states.
+//! `Facts`, `Actors`, `Lists` and `Values` for each part, and `Laws` for what is read back, which [`reading_law`] states.
 #![tactic(auto)]
 
 mod actors;
@@ -20,8 +20,9 @@ mod keys;
 mod laws;
 mod numbers;
 mod quotes;
-mod ranges;
+mod range_sets;
 mod rest;
+mod values;
 
 pub use actors::actor;
 pub use errors::{ReadError, Unread};
@@ -31,6 +32,7 @@ pub use keys::key;
 pub use laws::reading_law;
 pub use numbers::{hex8, number};
 pub use quotes::quoted;
-pub use ranges::range;
+pub use range_sets::{range, ranges};
 pub use rest::Rest;
 pub use std::alloc::AllocError as OutOfMemory;
+pub use values::cell;

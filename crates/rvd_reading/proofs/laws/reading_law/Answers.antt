@@ -1,3 +1,4 @@
+use Rattle.rvd_reading.proofs.ValuesBack.{cell_law}
 use Rattle.rvd_reading.proofs.ActorsBack.{place_law}
 use Rattle.rvd_reading.proofs.FactsBack.{fact_law}
 use Rattle.rvd_reading.proofs.NumbersBack.{number_law}
@@ -19,3 +20,6 @@ returns-clause-facts c = fact_law
 
 pub returns-clause-places : goal.returns-clause-places
 returns-clause-places c = place_law
+
+pub returns-clause-cells : goal.returns-clause-cells
+returns-clause-cells c = cell_law
