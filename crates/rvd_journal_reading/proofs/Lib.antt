@@ -1,0 +1,4 @@
+pub mod AsksBack
+pub mod AnswersBack
+pub mod VerdictsBack
+pub mod RefusalsBack

@@ -1,0 +1,5 @@
+pub mod Asks
+pub mod Answers
+pub mod Verdicts
+pub mod Refusals
+pub mod Laws
