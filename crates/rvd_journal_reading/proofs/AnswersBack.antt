@@ -1,5 +1,5 @@
 -- Answers are read back. Use `answer-back`.
-use Rattle.std.proofs.Common.{◌≡◌, ℕ, zero, suc, ◌+◌, ◌*◌, ◌/◌, ◌%◌, ◌^◌, ◌<◌, ◌≤◌, Bool, true, false, cond, ◌&&◌, List, [], ◌∷◌, ◌++◌, Option, Some, None, length, codes, refl, sym, ap, subst, ◌∙◌, arith, append_assoc, length-append}
+use Rattle.std.proofs.Common.{◌≡◌, ℕ, ◌+◌, ◌*◌, ◌/◌, ◌%◌, ◌^◌, ◌<◌, ◌≤◌, Bool, true, false, ◌&&◌, List, [], ◌∷◌, ◌++◌, Option, Some, None, length, codes, refl, ap, subst, ◌∙◌, arith, append_assoc, length-append}
 use Rattle.std.specs.Prelude.{flat_map, nat_eq, nat_lt, ◌==◌}
 use Rattle.std.specs.List.{AllByRecursion, starts_with}
 use Rattle.std.specs.Char.{digit_char}
@@ -18,7 +18,6 @@ use Rattle.rvd_notation.specs.Words.{class_word, hex2}
 use Rattle.rvd_notation.specs.Values.{value_text}
 use Rattle.rvd_reading.specs.Steps.{◌>>=◌, Step}
 use Rattle.rvd_reading.specs.Fixed.{just}
-use Rattle.rvd_reading.specs.Numbers.{hex8_of}
 use Rattle.rvd_reading.specs.Lists.{list_of}
 use Rattle.rvd_reading.proofs.WordsBack.{class-back}
 use Rattle.rvd_reading.proofs.NumbersBack.{hex8-back, number-back}

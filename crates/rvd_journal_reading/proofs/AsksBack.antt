@@ -1,10 +1,10 @@
 -- Asks are read back, behind which a space stands.
-use Rattle.std.proofs.Common.{◌≡◌, ℕ, ◌^◌, ◌<◌, List, [], ◌∷◌, ◌++◌, Option, Some, None, codes, refl, ap, ◌∙◌, arith, append_assoc}
+use Rattle.std.proofs.Common.{◌≡◌, ℕ, List, ◌∷◌, ◌++◌, Some, codes, refl, ap, ◌∙◌, arith, append_assoc}
 use Rattle.std.specs.Fmt.{decimal}
 use Rattle.rvd_text.specs.Hex.{hex8}
 use Rattle.rvd_ask.specs.declared.asks.Ask.{Ask}
 use Rattle.rvd_ask.specs.declared.asks.Ask.TheVariants as ask
-use Rattle.rvd_notation.specs.Words.{class_word, key_text}
+use Rattle.rvd_notation.specs.Words.{class_word}
 use Rattle.rvd_reading.proofs.WordsBack.{class-back}
 use Rattle.rvd_reading.proofs.NumbersBack.{hex8-back, number-back}
 use Rattle.rvd_reading.proofs.TextsBack.{key-back}

@@ -1,5 +1,5 @@
 -- Refusals are read back, where no digit stands behind them. Use `refusal_law`.
-use Rattle.std.proofs.Common.{◌≡◌, ℕ, ◌^◌, ◌<◌, ◌≤◌, false, List, [], ◌∷◌, ◌++◌, Option, Some, None, codes, refl, ap, ◌∙◌, arith}
+use Rattle.std.proofs.Common.{◌≡◌, ℕ, ◌^◌, ◌<◌, ◌≤◌, false, List, ◌++◌, Some, refl, ap, arith}
 use Rattle.std.specs.Fmt.{decimal}
 use Rattle.rvd_text.specs.Hex.{hex8}
 use Rattle.rvd_fact.specs.declared.keys.Key.{Key}

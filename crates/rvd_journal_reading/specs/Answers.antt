@@ -1,5 +1,5 @@
 -- An answer to an ask at the front of a text. Use `answer_of`.
-use Rattle.std.specs.Prelude.{ℕ, ◌+◌, ◌*◌, ◌^◌, ◌<◌, Bool, true, false, List, [], ◌∷◌, length, Option, Some, None, codes}
+use Rattle.std.specs.Prelude.{ℕ, ◌+◌, ◌*◌, ◌^◌, ◌<◌, true, false, List, [], ◌∷◌, length, Some, None, codes}
 use Rattle.std.specs.List.{AllByRecursion}
 use Rattle.rvd_text.specs.Quoted.{low_hex}
 use Rattle.rvd_fact.specs.declared.values.RefClass.{RefClass}

@@ -1,5 +1,5 @@
 -- What is printed of a verdict and of a refusal is read back.
-use Rattle.std.specs.Prelude.{◌≡◌, ℕ, nat_eq, true, false, List, [], ◌∷◌, ◌++◌, Option, Some, codes}
+use Rattle.std.specs.Prelude.{◌≡◌, ℕ, nat_eq, true, false, List, ◌++◌, Some, codes}
 use Rattle.std.specs.List.{starts_with}
 use Rattle.rvd_event.specs.declared.verdicts.Verdict.{Verdict}
 use Rattle.rvd_event.specs.declared.replies.Refusal.{Refusal}

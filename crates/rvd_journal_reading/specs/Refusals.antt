@@ -1,5 +1,5 @@
 -- A refusal at the front of a text. Use `refusal_of`.
-use Rattle.std.specs.Prelude.{ℕ, ◌^◌, ◌<◌, List, [], ◌∷◌, Option, Some, None, codes}
+use Rattle.std.specs.Prelude.{ℕ, ◌^◌, ◌<◌, List, [], ◌∷◌, Some, codes}
 use Rattle.rvd_fact.specs.declared.keys.Key.{Key}
 use Rattle.rvd_event.specs.declared.edits.EditRefusal.{EditRefusal}
 use Rattle.rvd_event.specs.declared.edits.EditRefusal.TheVariants.{LeavesSpace, BlockOverlap, BlocksFull, Unaligned, NoBlock, NoBytes, Overlap, BadInstruction, NoSuch, Present, SlotsFull}

@@ -1,5 +1,5 @@
 -- A verdict at the front of a text. Use `verdict_of`.
-use Rattle.std.specs.Prelude.{ℕ, ◌^◌, ◌<◌, List, [], ◌∷◌, length, Option, Some, None, codes}
+use Rattle.std.specs.Prelude.{ℕ, ◌^◌, ◌<◌, List, [], ◌∷◌, Some, codes}
 use Rattle.rvd_ask.specs.declared.asks.Ask.{Ask}
 use Rattle.rvd_ask.specs.declared.answers.Answer.{Answer}
 use Rattle.rvd_event.specs.declared.verdicts.Verdict.{Verdict}

@@ -43,3 +43,31 @@ pub fn verdict(alloc: Global, rest: &mut Rest) -> Result<Verdict, ReadError>
         Err(ReadError::Unread)
     }
 }
+
+#[cfg(test)]
+mod tests {
+    use super::*;
+    use crate::refusals::refusal;
+    use rvd_event::Refusal;
+    use std::test::Fail;
+
+    #[test]
+    fn a_verdict_ends_where_the_next_part_begins(rt: HostRuntime) -> Result<(), Fail> {
+        let mut rest = Rest::of(b"stale cell func 00010060 0 none [analysis func]; settled 7");
+        let verdict = verdict(rt.alloc(), &mut rest)?;
+        assert!(rt;
+            matches!(
+                &verdict,
+                Verdict::Stale {
+                    was: Answer::Cell(None),
+                    now: Answer::Cell(Some(_)),
+                    ..
+                }
+            )
+        );
+        assert_eq!(rt; rest.bytes(), b"; settled 7".as_slice());
+        let mut rest = Rest::of(b"cancelled 1");
+        assert_eq!(rt; refusal(&mut rest)?, Refusal::Cancelled(1));
+        Ok(())
+    }
+}

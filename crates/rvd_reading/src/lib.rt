@@ -2,8 +2,8 @@
 //!
 //! * [`Rest`] is what is left of a text. Each reader takes its part from the front, and gives it.
 //! * [`kind`], [`source`], [`class`] and [`analyzer`] read fixed words; [`hex8`] and [`number`] read numbers, [`quoted`] a quoted
-//!   text, [`key`] a key, [`range`] a range and [`ranges`] a set of addresses; [`perm`], [`form`], [`comment_kind`] and [`bookmark_type`] read parts of facts, and
-//!   [`actor`] an actor. [`cell`] reads a whole cell.
+//!   text, [`key`] a key, [`range`] a range and [`ranges`] a set of addresses.
+//! * [`perm`], [`form`], [`comment_kind`] and [`bookmark_type`] read parts of facts, [`cell`] a whole cell, and [`actor`] an actor.
 //!
 //! A reader may read more than what is printed, as digits of upper case or leading zeros. Whether a text is spelled as it is
 //! printed, a caller tells by printing what was read.

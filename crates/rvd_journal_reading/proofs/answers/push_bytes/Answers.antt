@@ -1,4 +1,4 @@
-use Rattle.std.proofs.Common.{◌≡◌, ◌+◌, ◌-◌, [], ap, ◌∙◌, refl}
+use Rattle.std.proofs.Common.{◌+◌, ◌-◌, [], ap, ◌∙◌, refl}
 use Rattle.rvd_reading.specs.Lists.{appended, list_of}
 use Rattle.rvd_reading.proofs.ListSteps.{walk-end, walk-more, walk-none}
 use Rattle.rvd_journal_reading.specs.Answers.{bytes_of, hex2_of}
