@@ -1,4 +1,4 @@
--- What is bounded in the state after a legal journal. Use `legal_is_bounded`.
+-- What is bounded in the state after a legal journal. Use `legal_is_bounded`, and the lemmas on what gets shorter.
 use Rattle.std.proofs.Common.{◌≡◌, ℕ, zero, suc, ◌+◌, ◌*◌, ◌≤◌, ◌<◌, Bool, true, false, cond, ◌&&◌, not, ◌==◌, nat_le, nat_lt, List, [], ◌∷◌, ◌++◌, length, filter, take, Option, Some, None, Result, Ok, Err, refl, sym, ap, ◌∙◌, subst, arith}
 use Rattle.std.specs.Option.{MatchOption}
 use Rattle.std.proofs.lemmas.Bool.{cond_both, leb-false}
@@ -29,14 +29,14 @@ use Rattle.rvd_machine.proofs.Jobs.{jobs-none, jobs-others, jobs-push}
 use Rattle.rvd_machine.proofs.Replied.{not_refused, few_given}
 
 -- lists that lose elements, or gain one
-without_newest-shorter : (a : ℕ) (es : List LiveEntry) → length (without_newest a es) ≤ length es
+pub without_newest-shorter : (a : ℕ) (es : List LiveEntry) → length (without_newest a es) ≤ length es
 without_newest-shorter a [] = omega arith
 without_newest-shorter a (e ∷ es) =
     let less = without_newest-shorter a es in
     cond_both (has_of a es) _ _ (λ (xs : List LiveEntry). length xs ≤ suc (length es)) (λ _. omega (arith, less))
     (λ _. cond_both (e.actor == a) _ _ (λ (xs : List LiveEntry). length xs ≤ suc (length es)) (λ _. omega arith) (λ _. omega arith))
 
-filter-shorter : {A : Type 0} (p : A → Bool) (xs : List A) → length (filter p xs) ≤ length xs
+pub filter-shorter : {A : Type 0} (p : A → Bool) (xs : List A) → length (filter p xs) ≤ length xs
 filter-shorter p [] = omega arith
 filter-shorter p (x ∷ xs) =
     let less = filter-shorter p xs in
@@ -48,7 +48,7 @@ one_more xs x = let e = length-append xs (x ∷ []) in omega (arith, e)
 take-few : (n : ℕ) (items : List Item) → n ≤ 64 → length (take n items) ≤ 64
 take-few n items few = let e = length-take n items in omega (arith, e, few)
 
-length-up_to : (n : ℕ) → length (up_to n) ≡ n
+pub length-up_to : (n : ℕ) → length (up_to n) ≡ n
 length-up_to zero = refl
 length-up_to (suc n) = length-append (up_to n) (suc n ∷ []) ∙ ap (λ k. k + 1) (length-up_to n) ∙ omega arith
 

@@ -2,6 +2,7 @@ pub mod Journals
 pub mod Replied
 mod Jobs
 mod Bounds
+mod Rooms
 pub mod Members
 mod Leads
 mod Keeps

@@ -7,3 +7,4 @@ pub mod Exact
 pub mod Ranges
 pub mod Steps
 pub mod Sound
+pub mod Rooms

@@ -4,11 +4,13 @@
 //! state, at the start and what is asked of it), `Verdicts` (what becomes of the items of a job that is offered), `Moves`
 //! (what each event makes of the state), `Replies` (the first refusal in order, or else the reply), `Exact` (the one reply
 //! to an offer of given proposals), `Ranges` (what the types of a reply keep), `Steps` (which entries are steps, which
-//! journals are legal, and the state that a journal leads to), and `Sound` (that no event is lost).
+//! journals are legal, and the state that a journal leads to), `Rooms` (that the rooms that a journal keeps are there), and
+//! `Sound` (that no event is lost).
 //!
 //! Laws of all legal journals:
 //!
 //! * [`journals_are_bounded`] bounds what a state has.
+//! * [`rooms_are_kept`] says that each live entry can end and each open session close, however long the journal is.
 //! * [`no_event_is_lost`] says that while a whole analysis stands, whatever an analyzer would change waits for it.
 //! * [`settled_is_closed`] says that where an analysis ends, no analyzer would change the committed program.
 //! * [`joined_changes_spare`] says that what joins are its rule's changes, which leave what is protected as it was.
@@ -18,6 +20,7 @@
 #![tactic(auto)]
 
 ghost use Rattle.rvd_machine.specs.Exact.{ExactIsLegal, ExactIsOne};
+ghost use Rattle.rvd_machine.specs.Rooms.{LegalKeepsRooms};
 ghost use Rattle.rvd_machine.specs.Sound.{JoinedIsSparing, LegalIsSound, SettledIsClosed};
 ghost use Rattle.rvd_machine.specs.Steps.{BaseIsAtSteps, LegalIsBounded};
 
@@ -30,6 +33,11 @@ use rvd_wake::analysis_laws;
 /// entry, and the jobs that are taken have rising tickets below the next one and at most 64 items each.
 pub fn journals_are_bounded()
     ensures { LegalIsBounded }
+{}
+
+/// The journal of each legal state keeps a room for the end of each live entry and for the close of each open session.
+pub fn rooms_are_kept()
+    ensures { LegalKeepsRooms }
 {}
 
 /// In the state after a legal journal all programs are valid. While a whole analysis stands there, each item of an enabled
