@@ -2,6 +2,7 @@
 //!
 //! * [`judge`] judges one proposal for each item of a job, in order, on the working program as the earlier ones left it. It
 //!   asks each read of the working program once, and the job's program only at the one that differs; no rule is run again.
+//! * [`apply_in_turn`] applies changes, and adds the items that each wakes.
 //! * [`misfit`] is the first place where the items of proposals aren't those of a job.
 //!
 //! Which verdict is the exact one, and what a batch becomes by it, is defined in rvd_machine (`Exact`, `Verdicts`). The
@@ -15,6 +16,7 @@ mod judging;
 mod places;
 mod reads;
 
+pub use joining::apply_in_turn;
 pub use judging::judge;
 pub use places::misfit;
 pub use std::alloc::AllocError as OutOfMemory;

@@ -1,5 +1,5 @@
 -- The desk's own reply to an offer is legal, and there is one. Use `exact_is_legal` and `exact_is_one`, and
--- `holds` for a proposal none of whose reads differs.
+-- `holds` for a proposal none of whose reads differs, and `misfit_within` for the place of a misfit.
 use Rattle.std.proofs.Common.{◌≡◌, ℕ, suc, ◌≤◌, Bool, true, false, cond, List, [], ◌∷◌, length, Option, Some, None, refl, sym, ap, ◌∙◌, subst, inl, inr, arith}
 use Rattle.std.specs.Option.{option_map}
 use Rattle.std.proofs.lemmas.Bool.{and_parts}
@@ -81,7 +81,7 @@ legal_verdicts E P (i ∷ items) (p ∷ proposals) b (v ∷ vs) fit forms exact 
     )
 
 -- ---- a misfit is within the job
-misfit_within : (items : List Item) (proposals : List Proposed) (place : ℕ) → first_misfit items proposals ≡ Some place → place ≤ length items
+pub misfit_within : (items : List Item) (proposals : List Proposed) (place : ℕ) → first_misfit items proposals ≡ Some place → place ≤ length items
 misfit_within [] [] place h = absurd (none-some place h)
 misfit_within [] (p ∷ proposals) place h = let e = some_is 0 place h in omega (arith, e)
 misfit_within (i ∷ items) [] place h = let e = some_is 0 place h in omega (arith, e)
