@@ -1,0 +1,23 @@
+//! The desk: one shared state that keeps its own journal.
+//!
+//! * [`Desk`] is the state. Contracts see its head, its journal, and whether it was stopped; the state is the one that the
+//!   journal leads to, and the type keeps that the journal is legal. So each call that is answered is a step of the machine
+//!   of one thread, and no event is lost.
+//! * Sessions call `begin`, `edit`, `end`, `undo`, `redo`, `full`, `cancel`, `enable`, `read`, `wait_test` and
+//!   `close_session`; workers call `take` and `offer`. A refused call is journaled and changes nothing else. `status` tells
+//!   what stands, `stop` stops the desk for good, and `close` gives what it has.
+//! * [`Snapshot`] is what a read gives, [`Job`] what a take gives.
+//!
+//! The definitions stand in `specs/`: `Story` says what contracts see of a desk, and `Calls` what a call does.
+#![tactic(auto)]
+
+mod answers;
+mod calls;
+mod desk;
+mod snapshots;
+mod worker_calls;
+
+pub use answers::{DeskError, Halt, Job, Took, Waited};
+pub use desk::{Desk, Head, Status};
+pub use snapshots::Snapshot;
+pub use std::alloc::AllocError as OutOfMemory;
