@@ -1,0 +1,4 @@
+pub mod Growing
+pub mod LinePlaces
+pub mod Resting
+pub mod WholeRuns

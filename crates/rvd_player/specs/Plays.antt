@@ -1,0 +1,43 @@
+-- What is played of an event file over a program. Use `Plays` for a desk that has played all its lines, and `PlayFails` where
+-- an error came before.
+use Rattle.std.specs.Prelude.{◌≡◌, ℕ, List, length, take, slice_get, Some, None}
+use Rattle.rvd_fact.specs.Program.{Program}
+use Rattle.rvd_script.specs.declared.script_lines.EventLine.{EventLine}
+use Rattle.rvd_script.specs.Legal.{Events}
+use Rattle.rvd_machine.specs.Steps.{Head, IsLegal, start_of}
+use Rattle.rvd_desk.specs.Story.{Story}
+use Rattle.rvd_desk.specs.declared.answers.DeskError.{DeskError}
+use Rattle.rvd_desk.specs.declared.answers.DeskError.TheVariants.{Refused, JournalFull, Stopped, OutOfMemory}
+use Rattle.rvd_settle.specs.Proper.{AreProper}
+use Rattle.rvd_player.specs.Lines.{AreOf, IsFullAt}
+
+-- the head of a run over a program with the actors of an event file
+abbrev pub head_of : Program → Events → Head
+head_of P file = record { program = P; sessions = file.sessions; workers = file.workers }
+
+-- a desk has played lines: its journal is legal, and its entries are theirs in order
+pub record Plays (h : Head) (lines : List EventLine) (d : Story) : Type 0 where
+  pub head : d.head ≡ h
+  pub running : d.halt ≡ None
+  pub legal : IsLegal h d.journal
+  pub entries : AreOf (start_of h) lines d.journal
+  pub proper : AreProper (start_of h) d.journal
+
+-- the journal of a part of the lines has no room for a begin: some lines are played whole, and the next one as far as there
+-- was room
+pub record FillsJournal (h : Head) (lines : List EventLine) (count : ℕ) : Type 0 where
+  pub number : ℕ
+  pub played : Story
+  pub plays : Plays h (take number lines) played
+  pub next : EventLine
+  pub is_next : slice_get lines number ≡ Some next
+  pub last : Story
+  pub full : IsFullAt played next.actor next.what last
+  pub legal : IsLegal h last.journal
+  pub counted : count ≡ length last.journal
+
+abbrev pub PlayFails : Head → List EventLine → DeskError → Type 0
+PlayFails h lines (Refused refusal) = ⊥
+PlayFails h lines (JournalFull count) = FillsJournal h lines count
+PlayFails h lines (Stopped halt) = ⊥
+PlayFails h lines OutOfMemory = Unit {0}

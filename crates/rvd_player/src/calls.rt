@@ -1,0 +1,136 @@
+ghost use Rattle.std.specs.Prelude.{◌≡◌, ◌≤◌, true, OnOk, IfOk, IfErr};
+ghost use Rattle.rvd_event.specs.declared.events.Event.TheVariants as event;
+ghost use Rattle.rvd_machine.specs.Steps.{may_call};
+ghost use Rattle.rvd_script.specs.Legal.{is_session_event};
+ghost use Rattle.rvd_desk.specs.Calls.{Did, Failed};
+ghost use Rattle.rvd_desk.specs.Story.{state_of};
+ghost use Rattle.rvd_player.specs.Lines.{CallFails, is_answered, is_callable, IsUnlessRefused, PlaysCall};
+
+use rvd_desk::{Desk, DeskError};
+use rvd_event::{Event, Reply};
+use rvd_settle::offer_taken;
+use std::alloc::Global;
+
+// Whether an event is always answered by a reply: a session's, but a wait.
+fn is_answered(event: &Event) -> bool
+    ensures { result ≡ is_answered event.now }
+{
+    !matches!(event, Event::Wait | Event::Take(_) | Event::Offer(_))
+}
+
+// A refused call is made too.
+fn unless_refused(error: DeskError) -> Result<(), DeskError>
+    ensures { IsUnlessRefused error result }
+{
+    match error {
+        DeskError::Refused(_) => Ok(()),
+        DeskError::JournalFull(count) => Err(DeskError::JournalFull(count)),
+        DeskError::Stopped(halt) => Err(DeskError::Stopped(halt)),
+        DeskError::OutOfMemory => Err(DeskError::OutOfMemory),
+    }
+}
+
+// Makes the call of a session's event, but a wait: its reply.
+fn session_call(
+    alloc: Global,
+    desk: &mut Desk,
+    actor: u32,
+    event: &Event,
+) -> Result<Reply, DeskError>
+    requires caller { may_call (state_of desk.old) actor event.now ≡ true }
+    requires legal { is_session_event event.now ≡ true }
+    requires answered { is_answered event.now ≡ true }
+    ensures ok { IfOk result (λ reply. Did desk.old desk.new actor event.now reply) }
+    ensures err { IfErr result (λ error. Failed desk.old desk.new actor event.now error) }
+{
+    match event {
+        Event::Begin(text) => Ok(Reply::Entry(desk.begin(alloc, actor, text.copy()?)?)),
+        Event::Edit(edit) => Ok(Reply::Changed(desk.edit(alloc, actor, edit.copy()?)?)),
+        Event::End(commit) => desk.end(alloc, actor, *commit),
+        Event::Undo => Ok(Reply::StepNo(desk.undo(alloc, actor)?)),
+        Event::Redo => Ok(Reply::StepNo(desk.redo(alloc, actor)?)),
+        Event::Full => Ok(Reply::StepNo(desk.full(alloc, actor)?)),
+        Event::Cancel => Ok(Reply::StepNo(desk.cancel(alloc, actor)?)),
+        Event::Enable(analyzer, on) => {
+            Ok(Reply::StepNo(desk.enable(alloc, actor, *analyzer, *on)?))
+        }
+        Event::Read => Ok(Reply::At(desk.read(alloc, actor)?.steps())),
+        Event::Close => Ok(Reply::Closed(desk.close_session(alloc, actor)?)),
+        Event::Wait | Event::Take(_) | Event::Offer(_) => unreachable!(),
+    }
+}
+
+// The same, where a refused call is made too.
+fn make_call(alloc: Global, desk: &mut Desk, actor: u32, event: &Event) -> Result<(), DeskError>
+    requires caller { may_call (state_of desk.old) actor event.now ≡ true }
+    requires legal { is_session_event event.now ≡ true }
+    requires answered { is_answered event.now ≡ true }
+    ensures ok { OnOk result (PlaysCall desk.old actor event.now desk.new) }
+    ensures err { IfErr result (λ error. CallFails desk.old desk.new actor event.now error) }
+{
+    let Err(error) = session_call(alloc, desk, actor, event) else {
+        return Ok(());
+    };
+    unless_refused(error)
+}
+
+// A wait, which is left out where it goes on.
+fn wait(alloc: Global, desk: &mut Desk, actor: u32) -> Result<(), DeskError>
+    requires { may_call (state_of desk.old) actor event.Wait ≡ true }
+    ensures ok { OnOk result (PlaysCall desk.old actor event.Wait desk.new) }
+    ensures err { IfErr result (λ error. CallFails desk.old desk.new actor event.Wait error) }
+{
+    let Err(error) = desk.wait_test(alloc, actor) else {
+        return Ok(());
+    };
+    unless_refused(error)
+}
+
+// A take, which is left out where it gives no job.
+fn take(alloc: Global, desk: &mut Desk, actor: u32, n: u32) -> Result<(), DeskError>
+    requires caller { may_call (state_of desk.old) actor (event.Take n) ≡ true }
+    requires number { (1 ≤ n) × (n ≤ 64) }
+    ensures ok { OnOk result (PlaysCall desk.old actor (event.Take n) desk.new) }
+    ensures err { IfErr result (λ error. CallFails desk.old desk.new actor (event.Take n) error) }
+{
+    let Err(error) = desk.take(alloc, actor, n) else {
+        return Ok(());
+    };
+    unless_refused(error)
+}
+
+// An offer of what the analyzers propose for the job of a ticket.
+fn offer(alloc: Global, desk: &mut Desk, actor: u32, ticket: u64) -> Result<(), DeskError>
+    requires { may_call (state_of desk.old) actor (event.Offer ticket) ≡ true }
+    ensures ok { OnOk result (PlaysCall desk.old actor (event.Offer ticket) desk.new) }
+    ensures err { IfErr result (λ error. CallFails desk.old desk.new actor (event.Offer ticket) error) }
+{
+    let Err(error) = offer_taken(alloc, desk, actor, ticket) else {
+        return Ok(());
+    };
+    unless_refused(error)
+}
+
+/// Makes the call of an event. It is left out where it is a wait that goes on or a take that gives no job; a refused call is
+/// made too.
+pub(crate) fn perform(
+    alloc: Global,
+    desk: &mut Desk,
+    actor: u32,
+    event: &Event,
+) -> Result<(), DeskError>
+    requires caller { may_call (state_of desk.old) actor event.now ≡ true }
+    requires legal { is_callable event.now ≡ true }
+    ensures ok { OnOk result (PlaysCall desk.old actor event.now desk.new) }
+    ensures err { IfErr result (λ error. CallFails desk.old desk.new actor event.now error) }
+{
+    if is_answered(event) {
+        return make_call(alloc, desk, actor, event);
+    }
+    match event {
+        Event::Wait => wait(alloc, desk, actor),
+        Event::Take(n) => take(alloc, desk, actor, *n),
+        Event::Offer(ticket) => offer(alloc, desk, actor, *ticket),
+        _ => unreachable!(),
+    }
+}
