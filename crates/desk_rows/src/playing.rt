@@ -1,0 +1,57 @@
+use rvd_elf::import;
+use rvd_event::Names;
+use rvd_journal_text::print;
+use rvd_player::{first_unplayed, play};
+use rvd_program::Program;
+use rvd_report::{history, listing};
+use rvd_script::read_events;
+use std::alloc::Global;
+use std::test::Fail;
+
+/// What an event file gives: the texts of the journal, of the history and of the listing.
+#[derive(Drop)]
+pub struct Texts {
+    pub journal: Vec<u8>,
+    pub history: Vec<u8>,
+    pub listing: Vec<u8>,
+}
+
+fn imported(alloc: Global, file: &[u8]) -> Result<Program, Fail> {
+    let Ok(facts) = import(alloc, file) else {
+        return Err(Fail::new("the file is refused"));
+    };
+    let mut program = Program::empty(alloc)?;
+    if !program.fits(&facts)? {
+        return Err(Fail::new("the facts don't fit"));
+    }
+    program.apply(&facts)?;
+    Ok(program)
+}
+
+/// Plays an event file on the imported program of an executable.
+pub fn played(alloc: Global, file: &[u8], events: &[u8]) -> Result<Texts, Fail> {
+    let program = imported(alloc, file)?;
+    let Ok(events) = read_events(alloc, events) else {
+        return Err(Fail::new("the events are refused"));
+    };
+    if first_unplayed(events.lines()).is_some() {
+        return Err(Fail::new("a line can't be played"));
+    }
+    let Ok(desk) = play(alloc, program, &events) else {
+        return Err(Fail::new("the desk gave nothing"));
+    };
+    let names = Names {
+        sessions: events.sessions(),
+        workers: events.workers(),
+    };
+    let (base, steps, entries) = desk.close();
+    let mut texts = Texts {
+        journal: Vec::new(alloc),
+        history: Vec::new(alloc),
+        listing: Vec::new(alloc),
+    };
+    print(&entries, names, &mut texts.journal)?;
+    history(&steps, names, &mut texts.history)?;
+    listing(alloc, &base, &mut texts.listing)?;
+    Ok(texts)
+}
