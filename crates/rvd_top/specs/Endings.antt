@@ -3,7 +3,7 @@
 use Rattle.std.specs.Prelude.{◌≡◌, ℕ, List, [], take, Option, Some, None, Result, Ok, Err}
 use Rattle.std.specs.Io.KnownBytes.{Appends}
 use Rattle.rvd_fact.specs.declared.cells.Change.{Change}
-use Rattle.rvd_fact.specs.declared.causes.What.TheVariants.{FileBytes, Lines}
+use Rattle.rvd_fact.specs.declared.causes.What.TheVariants.{FileBytes, Lines, Entries}
 use Rattle.rvd_fact.specs.declared.causes.TextCause.TheVariants.{UnknownWord}
 use Rattle.rvd_fact.specs.Program.{Program, applied_all}
 use Rattle.rvd_script.specs.declared.errors.ScriptError.{ScriptError}
@@ -16,8 +16,13 @@ use Rattle.rvd_elf.specs.Import.{import_of}
 use Rattle.rvd_top.specs.declared.endings.Ending.{Ending}
 use Rattle.rvd_top.specs.declared.endings.Ending.TheVariants.{Done, Usage, ReadFault, NotThisKind, Damaged, BadText, WriteFault, Memory, TooLarge, Differs}
 use Rattle.rvd_top.specs.declared.words.Print.{Print}
-use Rattle.rvd_top.specs.Texts.{text_of}
-use Rattle.rvd_top.specs.Plays.{IsPlayed, first_unplayed}
+use Rattle.rvd_top.specs.Texts.{IsTextOf, PrintFills}
+use Rattle.rvd_machine.specs.Steps.{max_entries}
+use Rattle.rvd_desk.specs.declared.answers.DeskError.{DeskError}
+use Rattle.rvd_desk.specs.declared.answers.DeskError.TheVariants as desk
+use Rattle.rvd_player.specs.Lines.{first_unplayed}
+use Rattle.rvd_player.specs.Plays.{FillsJournal, head_of}
+use Rattle.rvd_top.specs.Plays.{IsPlayed}
 
 -- the exit status
 abbrev pub status_of : Ending → ℕ
@@ -47,11 +52,12 @@ ending_of refusal = NotThisKind refusal
 
 -- How a command ends on what is imported, and what the sink then holds: where there are facts, the whole text
 -- of them, or a front of it after a fault of writing; else the ending for the refusal, and nothing is put.
--- Memory may always run out.
+-- Memory may always run out, and the journal of an analysis may be full.
 abbrev pub Prints : Option (List ℕ) → Option (List ℕ) → Print → Result (List Change) ElfError → Ending → Type 0
 Prints old new print facts Memory = Unit {0}
-Prints old new print (Ok changes) Done = Appends old new (text_of print changes)
-Prints old new print (Ok changes) WriteFault = (n : ℕ) × Appends old new (take n (text_of print changes))
+Prints old new print (Ok changes) Done = (text : List ℕ) × IsTextOf print changes text × Appends old new text
+Prints old new print (Ok changes) WriteFault = (text : List ℕ) × IsTextOf print changes text × ((n : ℕ) × Appends old new (take n text))
+Prints old new print (Ok changes) (TooLarge Entries count) = (count ≡ max_entries) × PrintFills print changes
 Prints old new print (Ok changes) ending = ⊥
 Prints old new print (Err refusal) Done = ⊥
 Prints old new print (Err refusal) WriteFault = ⊥
@@ -68,6 +74,7 @@ script_ending OutOfMemory = Memory
 abbrev pub PlaysOn : Option (List ℕ) → Option (List ℕ) → Program → Events → Option ℕ → Ending → Type 0
 PlaysOn old new P file None Done = (text : List ℕ) × IsPlayed P file text × Appends old new text
 PlaysOn old new P file None WriteFault = (text : List ℕ) × IsPlayed P file text × ((n : ℕ) × Appends old new (take n text))
+PlaysOn old new P file None (TooLarge Entries count) = (count ≡ max_entries) × ((length : ℕ) × FillsJournal (head_of P file) file.lines length)
 PlaysOn old new P file None ending = ⊥
 PlaysOn old new P file (Some line) Done = ⊥
 PlaysOn old new P file (Some line) WriteFault = ⊥
@@ -117,7 +124,20 @@ IsFault (ReadFault word) = Unit {0}
 IsFault WriteFault = Unit {0}
 IsFault ending = ⊥
 
-abbrev pub IsDoneOrMemory : Ending → Type 0
-IsDoneOrMemory Done = Unit {0}
-IsDoneOrMemory Memory = Unit {0}
-IsDoneOrMemory ending = ⊥
+-- the endings of a command over accepted files: done, no memory, or too many entries of a journal
+abbrev pub IsWithoutFault : Ending → Type 0
+IsWithoutFault Done = Unit {0}
+IsWithoutFault Memory = Unit {0}
+IsWithoutFault (TooLarge Entries count) = Unit {0}
+IsWithoutFault ending = ⊥
+
+-- an error of a desk that isn't stopped, and no refusal: its journal is full, or there is no memory
+abbrev pub IsUnstopped : DeskError → Type 0
+IsUnstopped (desk.Refused refusal) = ⊥
+IsUnstopped (desk.JournalFull count) = Unit {0}
+IsUnstopped (desk.Stopped halt) = ⊥
+IsUnstopped desk.OutOfMemory = Unit {0}
+
+abbrev pub desk_ending : DeskError → Ending
+desk_ending (desk.JournalFull count) = TooLarge Entries max_entries
+desk_ending error = Memory

@@ -1,7 +1,5 @@
 pub mod Words
 pub mod Texts
+pub mod Plays
 pub mod Endings
 pub mod Runs
-pub mod Machine
-pub mod Calls
-pub mod Plays

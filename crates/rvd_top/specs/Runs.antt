@@ -12,10 +12,11 @@ use Rattle.rvd_script.specs.Files.{events_of}
 use Rattle.rvd_top.specs.declared.endings.Ending.{Ending}
 use Rattle.rvd_top.specs.declared.endings.Ending.TheVariants.{Done, Usage, ReadFault, WriteFault}
 use Rattle.rvd_top.specs.declared.words.Print.{Print}
-use Rattle.rvd_top.specs.Texts.{text_of}
-use Rattle.rvd_top.specs.Plays.{IsPlayed, first_unplayed}
+use Rattle.rvd_top.specs.Texts.{IsTextOf}
+use Rattle.rvd_player.specs.Lines.{first_unplayed}
+use Rattle.rvd_top.specs.Plays.{IsPlayed}
 use Rattle.rvd_top.specs.Words.{is_command, print_of, play_of}
-use Rattle.rvd_top.specs.Endings.{Ends, EndsAbove, PlayEnds, IsDoneOrMemory, KeepsSink}
+use Rattle.rvd_top.specs.Endings.{Ends, EndsAbove, PlayEnds, IsWithoutFault, KeepsSink}
 
 -- the most bytes of a file
 abbrev pub max_file : ℕ
@@ -26,10 +27,10 @@ pub record PrintRuns {C K : Type 0} (held : C → List ℕ → Option (List ℕ)
     (print : Print) (file : List ℕ) (files files' : C) (out out' : K) (ending : Ending) : Type 0 where
   -- On Done the file is imported, and the sink gains the text of its facts.
   pub done : ending ≡ Done → (bytes : List ℕ) → held files file ≡ Some bytes
-      → (changes : List Change) × (import_of bytes ≡ Ok changes) × Appends (contents out) (contents out') (text_of print changes)
-  -- Where the file is imported and no count of faults rose, it ends with Done or Memory.
+      → (changes : List Change) × (text : List ℕ) × (import_of bytes ≡ Ok changes) × IsTextOf print changes text × Appends (contents out) (contents out') text
+  -- Where the file is imported and no count of faults rose, it ends with Done or Memory, or with too many entries by their row.
   pub complete : (bytes : List ℕ) (changes : List Change) → held files file ≡ Some bytes → length bytes ≤ max_file → import_of bytes ≡ Ok changes
-      → (Rose (read_faults files) (read_faults files') → ⊥) → (Rose (write_faults out) (write_faults out') → ⊥) → IsDoneOrMemory ending
+      → (Rose (read_faults files) (read_faults files') → ⊥) → (Rose (write_faults out) (write_faults out') → ⊥) → IsWithoutFault ending
   -- Which ending comes of a file whose bytes the cabinet tells: each refusal exactly where the import refuses so, and too
   -- large exactly where the bytes pass the limit.
   pub within : (bytes : List ℕ) → held files file ≡ Some bytes → length bytes ≤ max_file → Ends (contents out) (contents out') print bytes ending
@@ -45,10 +46,10 @@ pub record PlayRuns {C K : Type 0} (held : C → List ℕ → Option (List ℕ))
   pub done : ending ≡ Done → (bytes lines : List ℕ) → held files file ≡ Some bytes → held files events ≡ Some lines
       → (changes : List Change) × (script : Events) × (text : List ℕ) × (import_of bytes ≡ Ok changes) × (events_of lines ≡ Ok script)
       × IsPlayed (applied_all [] changes) script text × Appends (contents out) (contents out') text
-  -- Where both are so, each line can be played, and no count of faults rose, it ends with Done or Memory.
+  -- Where both are so, each line can be played, and no count of faults rose, it ends with Done or Memory, or with too many entries by their row.
   pub complete : (bytes lines : List ℕ) (changes : List Change) (script : Events) → held files file ≡ Some bytes → held files events ≡ Some lines
       → length bytes ≤ max_file → length lines ≤ max_file → import_of bytes ≡ Ok changes → events_of lines ≡ Ok script → first_unplayed script.lines ≡ None
-      → (Rose (read_faults files) (read_faults files') → ⊥) → (Rose (write_faults out) (write_faults out') → ⊥) → IsDoneOrMemory ending
+      → (Rose (read_faults files) (read_faults files') → ⊥) → (Rose (write_faults out) (write_faults out') → ⊥) → IsWithoutFault ending
   -- Which ending comes of files whose bytes the cabinet tells: each refusal exactly where the import or the grammar refuses
   -- so, and too large exactly where the bytes of the first or then of the second pass the limit.
   pub within : (bytes lines : List ℕ) → held files file ≡ Some bytes → held files events ≡ Some lines → length bytes ≤ max_file → length lines ≤ max_file

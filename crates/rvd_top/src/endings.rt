@@ -1,8 +1,12 @@
 ghost use Rattle.std.specs.Prelude.{◌≡◌};
 
+use rvd_desk::DeskError;
 use rvd_elf::ElfError;
 use rvd_fact::{TextCause, What};
 use rvd_script::ScriptError;
+
+/// The most entries of a journal.
+const MOST_ENTRIES: u64 = 1_000_000;
 
 /// How a command ends.
 #[derive(Clone, Copy, Debug, PartialEq, Eq)]
@@ -30,7 +34,8 @@ pub enum Ending {
     WriteFault,
     /// There was no memory.
     Memory,
-    /// A count passes its limit: the number counted, and for the bytes of a file the limit itself.
+    /// A count passes its limit: the number counted, and for the bytes of a file and the entries of a journal the
+    /// limit itself.
     TooLarge {
         what: What,
         count: u64,
@@ -42,7 +47,7 @@ pub enum Ending {
 }
 
 impl Ending {
-    ghost use Rattle.rvd_top.specs.Endings.{IsFault, ending_of, script_ending, status_of};
+    ghost use Rattle.rvd_top.specs.Endings.{IsFault, IsUnstopped, desk_ending, ending_of, script_ending, status_of};
 
     /// The exit status, 0 to 9 in the order of the variants.
     pub fn status(&self) -> u8
@@ -98,6 +103,23 @@ impl Ending {
                 cause,
             },
             ScriptError::OutOfMemory => Ending::Memory,
+        }
+    }
+
+    /// The ending for an error of the desk, which is never a refusal, and is never stopped.
+    pub(crate) fn of_desk(error: DeskError) -> Ending
+        requires { IsUnstopped error }
+        ensures ending { result ≡ desk_ending error }
+        ensures no_fault { IsFault result → ⊥ }
+        ensures usage { result ≡ Ending.Usage → ⊥ }
+    {
+        match error {
+            DeskError::JournalFull(_) => Ending::TooLarge {
+                what: What::Entries,
+                count: MOST_ENTRIES,
+            },
+            DeskError::OutOfMemory => Ending::Memory,
+            DeskError::Refused(_) | DeskError::Stopped(_) => unreachable!(),
         }
     }
 }

@@ -8,15 +8,12 @@
 //! `Endings` (which ending comes of what is imported).
 #![tactic(auto)]
 
-mod early;
 mod endings;
 mod play_runs;
-mod playing;
 mod print_runs;
 mod runs;
 mod texts;
 mod words;
-mod working;
 
 pub use endings::Ending;
 pub use runs::{MAX_FILE, run, run_plain};

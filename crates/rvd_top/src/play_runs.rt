@@ -1,52 +1,60 @@
-ghost use Rattle.std.specs.Prelude.{◌≡◌, ◌≢◌, ◌⊎◌, ◌<◌, ◌≤◌, [], ℕ, List, None, Some, Ok, IfOk, length};
+ghost use Rattle.std.specs.Prelude.{◌≡◌, ◌≢◌, ◌⊎◌, ◌++◌, ◌<◌, ◌≤◌, [], ℕ, List, None, Some, Ok, IfOk, IfErr, length};
 ghost use Rattle.std.specs.Io.KnownBytes.{Appends};
 ghost use Rattle.rvd_io.specs.Causes.{Rose};
 ghost use Rattle.rvd_fact.specs.declared.cells.Change.{Change};
-ghost use Rattle.rvd_fact.specs.Program.{Program, applied_all};
-ghost use Rattle.rvd_fact.specs.Valid.{Fits};
+ghost use Rattle.rvd_fact.specs.Program.{applied_all};
 ghost use Rattle.rvd_elf.specs.Import.{import_of};
+ghost use Rattle.rvd_machine.specs.State.{base};
+ghost use Rattle.rvd_desk.specs.Story.{state_of};
+ghost use Rattle.rvd_report.specs.History.{history};
+ghost use Rattle.rvd_report.specs.Listing.{listing};
 ghost use Rattle.rvd_script.specs.Legal.{Events};
 ghost use Rattle.rvd_script.specs.Files.{events_of};
-ghost use Rattle.rvd_top.specs.Plays.{IsPlayed, first_unplayed};
+ghost use Rattle.rvd_player.specs.Lines.{first_unplayed};
+ghost use Rattle.rvd_player.specs.Plays.{head_of, PlayFails};
+ghost use Rattle.rvd_top.specs.Plays.{IsPlayed};
 ghost use Rattle.rvd_top.specs.Runs.{PlayRuns};
-ghost use Rattle.rvd_top.specs.Endings.{PlayEnds, PlaysBoth, PlaysOrMemory, EndsAbove, IsDoneOrMemory, KeepsSink};
+ghost use Rattle.rvd_top.specs.Endings.{PlayEnds, PlaysBoth, PlaysOrMemory, EndsAbove, IsWithoutFault, KeepsSink};
 
 use crate::endings::Ending;
-use crate::playing::{first_unplayed, play};
 use crate::runs::MAX_FILE;
+use crate::texts::program_of;
+use rvd_desk::{Desk, DeskError};
 use rvd_elf::import;
 use rvd_event::Names;
-use rvd_fact::{Change, TextCause, What};
+use rvd_fact::{TextCause, What};
 use rvd_io::{Cabinet, FetchError, PutError, Sink, put_all};
+use rvd_player::{first_unplayed, play};
 use rvd_program::Program;
 use rvd_report::{history, listing};
 use rvd_script::{EventFile, read_events};
 use std::alloc::{AllocError, Global};
 
-// The program of the facts of a file.
-fn program_of(alloc: Global, changes: &[Change]) -> Result<Program, AllocError>
-    requires { Fits [] changes.now }
-    ensures { IfOk result (λ program. program ≡ applied_all [] changes.now) }
+// The history and the listing of a desk.
+fn desk_text(alloc: Global, desk: &Desk, names: Names) -> Result<Vec<u8>, AllocError>
+    ensures { IfOk result (λ text. text.items ≡ history (state_of desk.now).steps names ++ listing (base (state_of desk.now))) }
 {
-    let mut program = Program::empty(alloc)?;
-    program.apply(changes)?;
-    Ok(program)
+    let mut text = Vec::new(alloc);
+    history(desk.steps(), names, &mut text)?;
+    listing(alloc, desk.base(), &mut text)?;
+    Ok(text)
 }
 
 // The text of playing an event file on a program.
-fn played_text(alloc: Global, program: Program, file: &EventFile) -> Result<Vec<u8>, AllocError>
+fn played_text(alloc: Global, program: Program, file: &EventFile) -> Result<Vec<u8>, DeskError>
     requires { first_unplayed file.now.lines ≡ None }
-    ensures { IfOk result (λ text. IsPlayed program file.now text.items) }
+    ensures ok { IfOk result (λ text. IsPlayed program file.now text.items) }
+    ensures err { IfErr result (λ error. PlayFails (head_of program file.now) file.now.lines error) }
 {
     let names = Names {
         sessions: file.sessions(),
         workers: file.workers(),
     };
-    let early = play(alloc, program, file)?;
-    let mut text = Vec::new(alloc);
-    history(early.steps(), names, &mut text)?;
-    listing(alloc, early.base(), &mut text)?;
-    Ok(text)
+    let desk = play(alloc, program, file)?;
+    match desk_text(alloc, &desk, names) {
+        Ok(text) => Ok(text),
+        Err(_) => Err(DeskError::OutOfMemory),
+    }
 }
 
 // Plays an event file on a program and puts the text.
@@ -64,8 +72,9 @@ fn play_on<K: Sink>(alloc: Global, program: Program, file: &EventFile, out: &mut
             cause: TextCause::UnknownWord,
         };
     }
-    let Ok(text) = played_text(alloc, program, file) else {
-        return Ending::Memory;
+    let text = match played_text(alloc, program, file) {
+        Ok(text) => text,
+        Err(error) => return Ending::of_desk(error),
     };
     match put_all(out, &text) {
         Ok(()) => Ending::Done,
@@ -109,7 +118,7 @@ fn run_on_files<C: Cabinet, K: Sink>(
     ensures complete { (bytes lines : List ℕ) (changes : List Change) (script : Events) → C.held files.old file.now ≡ Some bytes
         → C.held files.old events.now ≡ Some lines → length bytes ≤ MAX_FILE → length lines ≤ MAX_FILE → import_of bytes ≡ Ok changes
         → events_of lines ≡ Ok script → first_unplayed script.lines ≡ None → (Rose (C.faults files.old) (C.faults files.new) → ⊥)
-        → (Rose (K.faults out.old) (K.faults out.new) → ⊥) → IsDoneOrMemory result }
+        → (Rose (K.faults out.old) (K.faults out.new) → ⊥) → IsWithoutFault result }
     ensures within { (bytes lines : List ℕ) → C.held files.old file.now ≡ Some bytes → C.held files.old events.now ≡ Some lines
         → length bytes ≤ MAX_FILE → length lines ≤ MAX_FILE → PlayEnds (K.contents out.old) (K.contents out.new) bytes lines result }
     ensures above { (bytes : List ℕ) → C.held files.old file.now ≡ Some bytes → MAX_FILE < length bytes → EndsAbove MAX_FILE result }

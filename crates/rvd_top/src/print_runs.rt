@@ -3,13 +3,13 @@ ghost use Rattle.std.specs.Io.KnownBytes.{Appends};
 ghost use Rattle.rvd_io.specs.Causes.{Rose};
 ghost use Rattle.rvd_fact.specs.declared.cells.Change.{Change};
 ghost use Rattle.rvd_elf.specs.Import.{import_of};
-ghost use Rattle.rvd_top.specs.Texts.{text_of};
+ghost use Rattle.rvd_top.specs.Texts.{IsTextOf};
 ghost use Rattle.rvd_top.specs.Runs.{PrintRuns};
-ghost use Rattle.rvd_top.specs.Endings.{Ends, EndsAbove, IsDoneOrMemory, KeepsSink, Prints};
+ghost use Rattle.rvd_top.specs.Endings.{Ends, EndsAbove, IsWithoutFault, KeepsSink, Prints};
 
 use crate::endings::Ending;
 use crate::runs::MAX_FILE;
-use crate::texts::push_text;
+use crate::texts::print_text;
 use crate::words::Print;
 use rvd_elf::import;
 use rvd_fact::What;
@@ -28,10 +28,10 @@ fn print_file<K: Sink>(alloc: Global, print: Print, bytes: &[u8], out: &mut K) -
         Ok(changes) => changes,
         Err(refusal) => return Ending::of_refusal(refusal),
     };
-    let mut text = Vec::new(alloc);
-    if push_text(alloc, print, &changes, &mut text).is_err() {
-        return Ending::Memory;
-    }
+    let text = match print_text(alloc, print, &changes) {
+        Ok(text) => text,
+        Err(error) => return Ending::of_desk(error),
+    };
     match put_all(out, &text) {
         Ok(()) => Ending::Done,
         Err(PutError::Failed) => Ending::WriteFault,
@@ -47,10 +47,10 @@ fn run_on_file<C: Cabinet, K: Sink>(
     out: &mut K,
 ) -> Ending
     ensures done { result ≡ Ending.Done → (bytes : List ℕ) → C.held files.old file.now ≡ Some bytes → (changes : List Change)
-        × (import_of bytes ≡ Ok changes) × Appends (K.contents out.old) (K.contents out.new) (text_of print changes) }
+        × (text : List ℕ) × (import_of bytes ≡ Ok changes) × IsTextOf print changes text × Appends (K.contents out.old) (K.contents out.new) text }
     ensures complete { (bytes : List ℕ) (changes : List Change) → C.held files.old file.now ≡ Some bytes → length bytes ≤ MAX_FILE
         → import_of bytes ≡ Ok changes → (Rose (C.faults files.old) (C.faults files.new) → ⊥)
-        → (Rose (K.faults out.old) (K.faults out.new) → ⊥) → IsDoneOrMemory result }
+        → (Rose (K.faults out.old) (K.faults out.new) → ⊥) → IsWithoutFault result }
     ensures within { (bytes : List ℕ) → C.held files.old file.now ≡ Some bytes → length bytes ≤ MAX_FILE
         → Ends (K.contents out.old) (K.contents out.new) print bytes result }
     ensures above { (bytes : List ℕ) → C.held files.old file.now ≡ Some bytes → MAX_FILE < length bytes → EndsAbove MAX_FILE result }

@@ -54,6 +54,33 @@ listing 2
 00010054 imported mark
 ";
 
+// A job is taken before a byte of its run is made data, which goes again before the offer.
+const ANALYSED: &str = "\
+events 1 1
+w1 take 1
+s1 full
+w1 take 1
+s1 begin \"d\"
+s1 data 1005d byte
+s1 commit
+s1 undo
+w1 offer 1
+";
+
+const ANALYSED_TEXT: &str = "\
+history 4
+1 full s1
+2 commit s1 \"d\" 1
+3 undo s1
+4 commit w1 \"Analysis\" 3
+listing 5
+00010054 imported block 00000010 r-x init
+00010054 imported mark
+00010054 analysis code 00100513 addi a0, zero, 1
+00010058 analysis code 008000ef jal ra, 00010060
+0001005c analysis code 0000006f jal zero, 0001005c
+";
+
 fn text(alloc: Global, word: &str) -> Result<Text, Fail> {
     let bytes = Vec::from_slice(alloc, word.as_bytes())?;
     if bytes.len() > 1000 {
@@ -94,12 +121,7 @@ fn plays_event_files(rt: HostRuntime) -> Result<(), Fail> {
         ("a name", NAMED, Ending::Done, NAMED_TEXT),
         ("an abort", JOINED, Ending::Done, NOTHING_TEXT),
         ("a close", CLOSED, Ending::Done, NOTHING_TEXT),
-        (
-            "a job",
-            "events 1 1\nw1 take 1\n",
-            bad(2, TextCause::UnknownWord),
-            "",
-        ),
+        ("an analysis", ANALYSED, Ending::Done, ANALYSED_TEXT),
         (
             "a query",
             "events 1 0\n\ns1 ask count",

@@ -1,11 +1,11 @@
 #!/usr/bin/env bash
-# Times `rvd list` on executables with 50,000, 100,000 and 199,999 symbols, which a script makes. Run it after
-# `rt ci` has built the program.
+# Times importing and listing executables with 50,000, 100,000 and 199,999 symbols, which a script makes, by `rvd play` of an
+# event file without calls. Run it after `rt ci` has built the program.
 set -u
 top=$(cd "$(dirname "$0")/.." && pwd) || exit 1
 program=$top/crates/rvd_main/out/rvd_main
-[ -x "$program" ] || { echo "bench_list: build the program first: rt ci, or ./rvd show FILE"; exit 1; }
-command -v python3 >/dev/null || { echo "bench_list: skipped, no python3"; exit 0; }
+[ -x "$program" ] || { echo "bench_import: build the program first: rt ci, or ./rvd show FILE"; exit 1; }
+command -v python3 >/dev/null || { echo "bench_import: skipped, no python3"; exit 0; }
 work=$(mktemp -d) || exit 1
 trap 'rm -rf "$work"' EXIT
 python3 - "$top" "$work" "$program" <<'END'
@@ -35,6 +35,8 @@ def executable(count, seed):
     body += bytes(sections - len(body))
     return body + section(0, 0, 0, 0, 0) + section(2, table, 16 * len(entries), 2, 16) + section(3, strings, len(names), 0, 0)
 
+events = f"{work}/none.events"
+open(events, "w").write("events 1 0\n")
 last = None
 for count in (50000, 100000, 199999):
     path = f"{work}/{count}.elf"
@@ -42,11 +44,11 @@ for count in (50000, 100000, 199999):
     best = None
     for _ in range(5):
         start = time.perf_counter()
-        done = subprocess.run([program, "list", path], stdout=subprocess.DEVNULL)
+        done = subprocess.run([program, "play", path, events], stdout=subprocess.DEVNULL)
         took = time.perf_counter() - start
         assert done.returncode == 0, done.returncode
         best = took if best is None else min(best, took)
     ratio = f", {best / last:.2f} times the last" if last else ""
-    print(f"bench_list: {count} symbols: {best:.3f} s{ratio}")
+    print(f"bench_import: {count} symbols: {best:.3f} s{ratio}")
     last = best
 END

@@ -1,5 +1,0 @@
-use Rattle.rvd_early.proofs.Bounds.{legal_is_bounded}
-use Rattle.rvd_early.proofs.journals_are_bounded.Goals as goal
-
-pub returns : goal.returns
-returns c = legal_is_bounded

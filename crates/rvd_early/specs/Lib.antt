@@ -1,4 +1,0 @@
-pub mod State
-pub mod Moves
-pub mod Replies
-pub mod Steps
