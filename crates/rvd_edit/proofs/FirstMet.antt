@@ -17,79 +17,18 @@ use Rattle.rvd_fact.specs.Memory.{cover, covers, unit_key, unit_len}
 use Rattle.rvd_fact.specs.Valid.{IsValid, span, unit_span}
 use Rattle.rvd_fact.proofs.KeyOrder.{cases_key, same_key_itself}
 use Rattle.rvd_fact.proofs.Scans.{absent, first, scanned, second}
+use Rattle.rvd_program.proofs.FirstFound.{IsFirst, NonePasses, found_first}
 use Rattle.rvd_program.proofs.Lengths.{unit_at_key}
 use Rattle.rvd_edit.specs.Laws.{FirstMetLaw, IsFirstMet}
 use Rattle.rvd_edit.specs.Spaces.{first_met, meets}
 use Rattle.rvd_edit.proofs.BytesLength.{first_passes}
 use Rattle.rvd_edit.proofs.NothingMet.{met_none, none_passes}
 
--- ---- what is found first is lowest
-
--- a key that is less doesn't stand at a higher address
-less_at : (x y : ℕ) (o : Ordering) → T (is_lt (ordering_then (nat_cmp x y) o)) → x ≤ y
-less_at x y o h = elim (nat_cmp x y) as (λ r. r ≡ nat_cmp x y → T (is_lt (ordering_then r o)) → x ≤ y) [
-  | Less ↦ λ e _. let below : x < y = ranked x y Less e in omega (arith, below)
-  | Equal ↦ λ e _. let same : x ≡ y = ranked x y Equal e in omega (arith, same)
-  | Greater ↦ λ e t. absurd t
-] refl h
-
--- what stands behind a key doesn't stand at a lower address
-behind_at : (k : Key) (S : Program) (q : Key) (c : Cell) → T (below_all key_cmp k S) → cell_at S q ≡ Some c → k.at ≤ q.at
-behind_at k [] q c below here = absurd cc
-behind_at k (e ∷ S) q c below here = elim (cases_key q e.0) [
-  | inl same ↦
-      let at : q.at ≡ e.0.at = ap (λ (x : Key). x.at) same in
-      let low : k.at ≤ e.0.at = less_at k.at e.0.at _ (first _ _ below) in
-      omega (arith, at, low)
-  | inr other ↦ behind_at k S q c (second _ _ below) (sym (ap (λ (b : Bool). cond b (Some e.1) (cell_at S q)) other) ∙ here)
-]
-
-same_entry : (x e : Key × Cell) → Some x ≡ Some e → x ≡ e
-same_entry x e h = cc
-
-first_lowest : (p : Key × Cell → Bool) (S : Program) (e : Key × Cell) → IsInOrder S → first_where p S ≡ Some e → (q : Key) (c : Cell) → cell_at S q ≡ Some c → p (q, c) ≡ true → e.0.at ≤ q.at
-first_lowest p [] e s h q c here passes = absurd cc
-first_lowest p (x ∷ S) e s h q c here passes = elim (cases_Bool (p x)) [
-  | inl taken ↦
-      let is : x ≡ e = same_entry x e (sym (ap (λ (b : Bool). cond b (Some x) (first_where p S)) taken) ∙ h) in
-      let at : x.0.at ≡ e.0.at = ap (λ (y : Key × Cell). y.0.at) is in
-      elim (cases_key q x.0) [
-        | inl same ↦ let own : q.at ≡ x.0.at = ap (λ (y : Key). y.at) same in omega (arith, at, own)
-        | inr other ↦
-            let low : x.0.at ≤ q.at = behind_at x.0 S q c (first _ _ s) (sym (ap (λ (b : Bool). cond b (Some x.1) (cell_at S q)) other) ∙ here) in
-            omega (arith, at, low)
-      ]
-  | inr passed ↦ elim (cases_key q x.0) [
-    | inl same ↦
-        let own : Some x.1 ≡ Some c = sym (ap (λ (b : Bool). cond b (Some x.1) (cell_at S q)) (ap (λ (y : Key). same_key y x.0) same ∙ same_key_itself x.0)) ∙ here in
-        let cell : x.1 ≡ c = cc in
-        absurd (both_ways (p x) passed (ap p (λ i. (sym same i, cell i)) ∙ passes))
-    | inr other ↦
-        first_lowest p S e (second _ _ s) (sym (ap (λ (b : Bool). cond b (Some x) (first_where p S)) passed) ∙ h) q c (sym (ap (λ (b : Bool). cond b (Some x.1) (cell_at S q)) other) ∙ here) passes
-  ]
-]
+-- an entry that is found is a cell of the program, and no cell that passes stands at a lower address
+first_facts : (p : Key × Cell → Bool) (S : Program) (e : Key × Cell) → IsInOrder S → first_where p S ≡ Some e → IsFirst p S e
+first_facts p S e s h = subst (λ (o : Option (Key × Cell)). MatchOption o (NonePasses p S) (IsFirst p S)) h (found_first p S s)
 
 -- ---- what covers a byte
-
-None≢Some : (c : Cell) → None ≡ Some c → ⊥
-None≢Some c h = cc
-
--- an entry that is found is a cell of the program
-found_cell : (p : Key × Cell → Bool) (S : Program) (e : Key × Cell) → IsInOrder S → first_where p S ≡ Some e → cell_at S e.0 ≡ Some e.1
-found_cell p [] e s h = absurd cc
-found_cell p (x ∷ S) e s h = elim (cases_Bool (p x)) [
-  | inl taken ↦
-      let is : x ≡ e = same_entry x e (sym (ap (λ (b : Bool). cond b (Some x) (first_where p S)) taken) ∙ h) in
-      subst (λ (y : Key × Cell). cell_at (x ∷ S) y.0 ≡ Some y.1) is (ap (λ (b : Bool). cond b (Some x.1) (cell_at S x.0)) (same_key_itself x.0))
-  | inr passed ↦
-      let later : cell_at S e.0 ≡ Some e.1 = found_cell p S e (second _ _ s) (sym (ap (λ (b : Bool). cond b (Some x) (first_where p S)) passed) ∙ h) in
-      elim (cases_key e.0 x.0) [
-        | inl same ↦
-            let nothing : cell_at S e.0 ≡ None = ap (cell_at S) same ∙ absent x.0 S (first _ _ s) in
-            absurd (None≢Some e.1 (sym nothing ∙ later))
-        | inr other ↦ ap (λ (b : Bool). cond b (Some x.1) (cell_at S e.0)) other ∙ later
-      ]
-]
 
 -- a unit that has a byte
 record Covering (S : Program) (x : ℕ) (e : Key × Cell) : Type 0 where
@@ -100,7 +39,7 @@ record Covering (S : Program) (x : ℕ) (e : Key × Cell) : Type 0 where
 covering : (S : Program) (x : ℕ) (e : Key × Cell) → IsInOrder S → first_where (covers x) S ≡ Some e → Covering S x e
 covering S x e s h =
     let p = and_parts (nat_le e.0.at x) (nat_lt x (e.0.at + unit_len e.1.value)) (first_passes (covers x) S e h) in
-    record { here = found_cell (covers x) S e s h; low = leb-true e.0.at x p.0; high = ltb-true x (e.0.at + unit_len e.1.value) p.1 }
+    record { here = (first_facts (covers x) S e s h).here; low = leb-true e.0.at x p.0; high = ltb-true x (e.0.at + unit_len e.1.value) p.1 }
 
 uncovered : (S : Program) (x : ℕ) (o : Option (Key × Cell)) → first_where (covers x) S ≡ o → ((e : Key × Cell) → first_where (covers x) S ≡ Some e → ⊥) → option_map (λ (e : Key × Cell). e.0.at) o ≡ None
 uncovered S x None is no_entry = refl
@@ -126,7 +65,7 @@ meeting : (S : Program) (a n : ℕ) (e : Key × Cell) → IsInOrder S → first_
 meeting S a n e s h =
     let p = and_parts (nat_lt 0 (unit_len e.1.value)) (nat_lt a (e.0.at + unit_len e.1.value) && nat_lt e.0.at (a + n)) (first_passes (meets unit_len a n) S e h) in
     let q = and_parts (nat_lt a (e.0.at + unit_len e.1.value)) (nat_lt e.0.at (a + n)) p.1 in
-    record { here = found_cell (meets unit_len a n) S e s h; long = ltb-true 0 (unit_len e.1.value) p.0; left = ltb-true a (e.0.at + unit_len e.1.value) q.0; right = ltb-true e.0.at (a + n) q.1 }
+    record { here = (first_facts (meets unit_len a n) S e s h).here; long = ltb-true 0 (unit_len e.1.value) p.0; left = ltb-true a (e.0.at + unit_len e.1.value) q.0; right = ltb-true e.0.at (a + n) q.1 }
 
 module _ (S : Program) (valid : IsValid S) where
   -- how many bytes the present unit at an entry's address takes
@@ -182,7 +121,7 @@ module _ (S : Program) (valid : IsValid S) where
             let f_low = c.low in
             let f_high = c.high in
             let its : meets unit_len a n f ≡ true = meets_from a n f (omega (arith, f_low, f_high)) (omega (arith, f_high)) (omega (arith, f_low, low, right)) in
-            let least : e.0.at ≤ f.0.at = first_lowest (meets unit_len a n) S e valid.in_order h f.0 f.1 c.here its in
+            let least : e.0.at ≤ f.0.at = (first_facts (meets unit_len a n) S e valid.in_order h).lowest f.0 f.1 c.here its in
             omega (arith, least, f_low, low));
       }
 

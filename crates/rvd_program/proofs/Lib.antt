@@ -7,3 +7,5 @@ pub mod References
 pub mod Spaces
 pub mod Standing
 pub mod Deciding
+pub mod FirstFound
+pub mod Nearest

@@ -6,7 +6,8 @@
 //!
 //! A program is valid at every moment. The cells stand in a table in the order of their keys, so that a cell, or the
 //! first reference from an address, is found in a time that grows as the logarithm of their number, and a program is
-//! built from facts in the order of their keys in a time that grows as their number.
+//! built from facts in the order of their keys in a time that grows as their number. A unit is looked for from the address
+//! down, at most 256 bytes, and a block past the blocks below it and the facts that stand in none.
 //!
 //! What a program is, when it is valid and what changes do to it is defined in rvd_fact (`Program`, `Memory` and
 //! `Valid`); `specs/Lookup.antt` adds what a look-up by order finds.
@@ -17,6 +18,7 @@ mod checks;
 mod fitting;
 mod kept;
 mod memory;
+mod near;
 mod refs;
 mod same;
 mod spans;

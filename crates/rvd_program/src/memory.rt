@@ -1,33 +1,30 @@
 ghost use Rattle.std.specs.Prelude.{◌≡◌, ◌≤◌, length, IfOk, IfSome, find as first_where};
 ghost use Rattle.std.specs.Option.{option_map, option_copied};
 ghost use Rattle.std.specs.Int.{from_le_bytes, w32};
-ghost use Rattle.rvd_fact.specs.Memory.{covers, surrounds, cover, block, bytes, word, bytes_in};
+ghost use Rattle.rvd_fact.specs.Memory.{surrounds, cover, block, bytes, word, bytes_in};
 
-use crate::kept::Kept;
-use crate::spans::{block_len, unit_len};
+use crate::kept::{Kept, cell_in};
+use crate::near::{block_key, block_start, unit_start};
+use crate::spans::block_len;
 use crate::valid_map::Program;
 use rvd_fact::{Addr, Bytes, Key, Value};
 use std::alloc::{AllocError, Global};
 
 impl Program {
-    /// The start of the present unit that has the byte at an address, or None where none has it. It takes no memory.
+    /// The start of the present unit that has the byte at an address, or None where none has it. It takes no memory. The
+    /// unit is looked for from the address down, at most as far as a unit is long.
     pub fn cover(&self, at: Addr) -> Option<Addr>
         ensures { result ≡ cover self.now at }
     {
-        match covering(self.entries(), at) {
-            None => None,
-            Some(unit) => Some(unit.0.at),
-        }
+        unit_start(&self.cells, at)
     }
 
-    /// The start of the block around an address, or None where there is none. It takes no memory.
+    /// The start of the block around an address, or None where there is none. It takes no memory. Blocks are passed over one
+    /// by one, without a look at what lies in them.
     pub fn block(&self, at: Addr) -> Option<Addr>
         ensures { result ≡ block self.now at }
     {
-        match surrounding(self.entries(), at) {
-            None => None,
-            Some(block) => Some(block.0.at),
-        }
+        block_start(&self.cells, at)
     }
 
     /// The `len` bytes from an address on, or None where `len` is 0 or they don't lie in one initialised block. Only
@@ -35,9 +32,12 @@ impl Program {
     pub fn bytes(&self, alloc: Global, at: Addr, len: u16) -> Result<Option<Bytes>, AllocError>
         ensures { IfOk result (λ answer. answer ≡ bytes self.now at len) }
     {
-        match surrounding(self.entries(), at) {
+        match block_start(&self.cells, at) {
             None => Ok(None),
-            Some(block) => bytes_in(alloc, block.0.at, at, len, &block.1.cell().value),
+            Some(start) => match cell_in(&self.cells, &block_key(start)) {
+                None => Ok(None),
+                Some(cell) => bytes_in(alloc, start, at, len, &cell.value),
+            },
         }
     }
 }
@@ -50,19 +50,6 @@ pub fn word(entries: &[(Key, Kept)], at: Addr) -> Option<u32>
         None => None,
         Some(block) => word_in(block.0.at, at, &block.1.cell().value),
     }
-}
-
-// The unit that has the byte at an address.
-fn covering(entries: &[(Key, Kept)], at: Addr) -> Option<&(Key, Kept)>
-    ensures { option_copied result ≡ first_where (covers at) entries.now }
-{
-    for entry in entries {
-        let start = entry.0.at;
-        if start <= at && at - start < unit_len(&entry.1.cell().value) {
-            return Some(entry);
-        }
-    }
-    None
 }
 
 // The block around an address.
