@@ -1,13 +1,12 @@
 -- The queued items from a start on: where none before it is queued, these are all of them. Use `queued_from` for a range of
 -- cells, and `from_first` for a later start.
-use Rattle.std.proofs.Common.{◌≡◌, ℕ, suc, ◌+◌, ◌<◌, get_or, Bool, true, false, cond, not, ◌&&◌, List, [], ◌∷◌, length, filter, map, take, slice_get, Option, Some, None, refl, sym, ap, ◌∙◌, subst, inl, inr, arith}
+use Rattle.std.proofs.Common.{◌≡◌, ℕ, suc, ◌+◌, ◌<◌, get_or, Bool, true, false, cond, not, ◌&&◌, List, [], ◌∷◌, length, filter, map, take, slice_get, Some, None, refl, sym, ap, ◌∙◌, subst, inl, inr, arith}
 use Rattle.std.proofs.lemmas.Bool.{and_from, and_parts, not-true, not_from_false, or_cases, or_left, or_right}
 use Rattle.std.proofs.lemmas.Bool.Decides.{nat_tests}
 use Rattle.std.proofs.lemmas.Cmp.{tied_itself, upto}
 use Rattle.std.proofs.lemmas.List.Folds.{list_all_more, list_any_kept, list_any_more}
 use Rattle.std.proofs.lemmas.List.{take-map}
 use Rattle.std.proofs.lemmas.Map.Keys.{sorted_head}
-use Rattle.std.specs.BTreeMap.{BTreeMap, values}
 use Rattle.std.specs.BTreeMap.Range.{entries_between, range_contains}
 use Rattle.std.specs.declared.ops.Bound.TheVariants.{Included, Unbounded}
 use Rattle.std.specs.declared.cmp.Ordering.{Ordering}
@@ -21,11 +20,11 @@ use Rattle.rvd_ask.specs.declared.asks.Analyzer.{Analyzer}
 use Rattle.rvd_ask.specs.declared.asks.Analyzer.TheVariants.{Flow, Refs, Funcs, Body, Strings}
 use Rattle.rvd_ask.specs.declared.asks.Item.{Item}
 use Rattle.rvd_ask.specs.Order.{item_cmp, same_item}
-use Rattle.rvd_ask.specs.Unsettled.{has_item}
+use Rattle.rvd_ask.specs.Unsettled.{has_item, same_analyzer}
 use Rattle.rvd_ask.proofs.ItemOrder.{items_total, derived_is, same_item_itself}
 use Rattle.rvd_queue.specs.declared.cells.Cell.{Cell}
-use Rattle.rvd_queue.specs.Cells.{is_from, is_queued, queued_in}
-use Rattle.rvd_queue.specs.Sets.{with, with_all}
+use Rattle.rvd_queue.specs.Cells.{is_from, is_queued, items_where, queued_in}
+use Rattle.rvd_queue.specs.Sets.{with, with_all, without_analyzer}
 use Rattle.rvd_queue.proofs.ItemSets.{Sorted}
 use Rattle.rvd_queue.proofs.Members.{Cells}
 
@@ -53,12 +52,29 @@ queued_from start (e ∷ cells) h = elim e.1.queued as (λ q. e.1.queued ≡ q �
       ∙ queued_from start cells all
 ] refl h
 
--- how many are queued
+-- how many pass a test
+pub count_where : (test : Cell → Bool) (cells : Cells) → length (filter test (values_of cells)) ≡ length (items_where test cells)
+count_where test [] = refl
+count_where test (e ∷ cells) = elim (test e.1) as (λ q. length (cond q (e.1 ∷ filter test (values_of cells)) (filter test (values_of cells))) ≡ length (keys_of (cond q (e ∷ filter (λ c. test c.1) cells) (filter (λ c. test c.1) cells)))) [
+  | true ↦ ap suc (count_where test cells)
+  | false ↦ count_where test cells
+]
+
+-- how many are queued, and how many of these aren't an analyzer's
 pub count_is : (cells : Cells) → length (filter is_queued (values_of cells)) ≡ length (queued_in cells)
-count_is [] = refl
-count_is (e ∷ cells) = elim e.1.queued as (λ q. length (cond q (e.1 ∷ filter is_queued (values_of cells)) (filter is_queued (values_of cells))) ≡ length (keys_of (cond q (e ∷ filter (λ c. c.1.queued) cells) (filter (λ c. c.1.queued) cells)))) [
-  | true ↦ ap suc (count_is cells)
-  | false ↦ count_is cells
+count_is cells = count_where is_queued cells
+
+abbrev pub is_other : Analyzer → Item × Cell → Bool
+is_other a e = e.1.queued && not (same_analyzer a e.0.analyzer)
+
+pub others_are : (a : Analyzer) (cells : Cells) → length (filter (is_other a) cells) ≡ length (without_analyzer a (queued_in cells))
+others_are a [] = refl
+others_are a (e ∷ cells) = elim e.1.queued as (λ q. length (cond (q && not (same_analyzer a e.0.analyzer)) (e ∷ filter (is_other a) cells) (filter (is_other a) cells)) ≡ length (without_analyzer a (keys_of (cond q (e ∷ filter (λ c. c.1.queued) cells) (filter (λ c. c.1.queued) cells))))) [
+  | true ↦ elim (not (same_analyzer a e.0.analyzer)) as (λ q. length (cond q (e ∷ filter (is_other a) cells) (filter (is_other a) cells)) ≡ length (cond q (e.0 ∷ without_analyzer a (queued_in cells)) (without_analyzer a (queued_in cells)))) [
+    | true ↦ ap suc (others_are a cells)
+    | false ↦ others_are a cells
+  ]
+  | false ↦ others_are a cells
 ]
 
 -- the least n of them, from the cells of a range

@@ -2,7 +2,8 @@
 //!
 //! * [`Queues`] is two sets of items: those that are queued, and those that are kept while a transaction is open. It is
 //!   made by `new`; `add_all` and `remove_all` add and remove items, `remove_analyzer` those of one analyzer; `least` gives
-//!   the queued items that come first, and `len` their number. `keep_queued`, `restore` and `forget` are for the begin, the
+//!   the queued items that come first, and `len` their number; `kept_len` and `others_len` count the kept ones and the
+//!   queued ones of other analyzers. `keep_queued`, `restore` and `forget` are for the begin, the
 //!   rollback and the commit of a transaction; `clear` empties both sets.
 //! * [`Taken`] is a list of jobs, each with its ticket, items and program. It is made by `new`; `put` appends a job, `find`
 //!   and `at` look one up by its ticket or its place, `drop_ticket` takes one out, and `len` and `clear` are as usual.

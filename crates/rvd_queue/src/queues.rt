@@ -3,7 +3,7 @@ ghost use Rattle.rvd_queue.specs.Cells.{AreSets};
 ghost use Rattle.rvd_queue.specs.Sets.{with_all, without_all, without_analyzer};
 
 use crate::cells::{Cell, keep_all, make_room, queue_all, unqueue_all};
-use crate::reads::{count_queued, earliest, first_queued, least};
+use crate::reads::{count_kept, count_others, count_queued, earliest, first_queued, least};
 use crate::sweeps::{forget, keep_queued, remove_analyzer, restore};
 use rvd_ask::{Analyzer, Item, Items};
 use std::alloc::{AllocError, Global};
@@ -117,6 +117,20 @@ impl Queues {
         ensures sets { AreSets self.now }
     {
         self.count as u64
+    }
+
+    /// The number of kept items. It goes over all cells, and takes no memory.
+    pub fn kept_len(&self) -> u64
+        ensures { result ≡ length self.now.kept }
+    {
+        count_kept(&self.cells) as u64
+    }
+
+    /// The number of queued items that aren't an analyzer's. It goes over all cells, and takes no memory.
+    pub fn others_len(&self, analyzer: Analyzer) -> u64
+        ensures { result ≡ length (without_analyzer analyzer self.now.queued) }
+    {
+        count_others(&self.cells, analyzer) as u64
     }
 
     /// Both sets become empty. It takes no memory.

@@ -1,10 +1,11 @@
 ghost use Rattle.std.specs.Prelude.{◌≡◌, true, ◌∷◌, length, slice_get, take, IfOk};
 ghost use Rattle.std.specs.List.{list_all};
 ghost use Rattle.rvd_ask.specs.Unsettled.{has_item};
-ghost use Rattle.rvd_queue.specs.Cells.{InOrder, is_from, queued_in};
+ghost use Rattle.rvd_queue.specs.Cells.{InOrder, is_from, kept_in, queued_in};
+ghost use Rattle.rvd_queue.specs.Sets.{without_analyzer};
 
 use crate::cells::Cell;
-use rvd_ask::Item;
+use rvd_ask::{Analyzer, Item};
 use std::alloc::{AllocError, Global};
 use std::cmp::Ordering;
 use std::collections::BTreeMap;
@@ -14,6 +15,23 @@ pub fn count_queued(cells: &BTreeMap<Item, Cell>) -> usize
     ensures { result ≡ length (queued_in cells.now.entries) }
 {
     cells.values().filter(|cell| cell.queued).count()
+}
+
+/// The number of kept items.
+pub fn count_kept(cells: &BTreeMap<Item, Cell>) -> usize
+    ensures { result ≡ length (kept_in cells.now.entries) }
+{
+    cells.values().filter(|cell| cell.kept).count()
+}
+
+/// The number of queued items that aren't an analyzer's.
+pub fn count_others(cells: &BTreeMap<Item, Cell>, analyzer: Analyzer) -> usize
+    ensures { result ≡ length (without_analyzer analyzer (queued_in cells.now.entries)) }
+{
+    cells
+        .iter()
+        .filter(|(item, cell)| cell.queued && item.analyzer != analyzer)
+        .count()
 }
 
 /// The least `n` queued items, where none before `start` is queued.
