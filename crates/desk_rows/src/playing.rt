@@ -1,17 +1,18 @@
 use rvd_elf::import;
 use rvd_event::Names;
 use rvd_journal_text::print;
-use rvd_player::{first_unplayed, play};
+use rvd_player::{Played, play};
 use rvd_program::Program;
-use rvd_report::{history, listing};
+use rvd_report::{answers, history, listing};
 use rvd_script::read_events;
 use std::alloc::Global;
 use std::test::Fail;
 
-/// What an event file gives: the texts of the journal, of the history and of the listing.
+/// What an event file gives: the texts of the journal, of the answers, of the history and of the listing.
 #[derive(Drop)]
 pub struct Texts {
     pub journal: Vec<u8>,
+    pub answers: Vec<u8>,
     pub history: Vec<u8>,
     pub listing: Vec<u8>,
 }
@@ -34,10 +35,13 @@ pub fn played(alloc: Global, file: &[u8], events: &[u8]) -> Result<Texts, Fail> 
     let Ok(events) = read_events(alloc, events) else {
         return Err(Fail::new("the events are refused"));
     };
-    if first_unplayed(events.lines()).is_some() {
-        return Err(Fail::new("a line can't be played"));
-    }
-    let Ok(desk) = play(alloc, program, &events) else {
+    let Ok(
+        Played {
+            desk,
+            answers: answered,
+        },
+    ) = play(alloc, program, &events)
+    else {
         return Err(Fail::new("the desk gave nothing"));
     };
     let names = Names {
@@ -47,10 +51,12 @@ pub fn played(alloc: Global, file: &[u8], events: &[u8]) -> Result<Texts, Fail> 
     let (base, steps, entries) = desk.close();
     let mut texts = Texts {
         journal: Vec::new(alloc),
+        answers: Vec::new(alloc),
         history: Vec::new(alloc),
         listing: Vec::new(alloc),
     };
     print(&entries, names, &mut texts.journal)?;
+    answers(&answered, &mut texts.answers)?;
     history(&steps, names, &mut texts.history)?;
     listing(alloc, &base, &mut texts.listing)?;
     Ok(texts)

@@ -5,7 +5,7 @@ use std::alloc::Global;
 use std::test::Fail;
 
 // A played event file: the lines behind its head, then the lines of the journal behind its head and without their numbers,
-// those of the history likewise, and those of the listing. Where no lines are given, the text isn't looked at.
+// those of the answers, those of the history without their numbers, and those of the listing. Where no lines are given, the text isn't looked at.
 #[derive(Clone, Copy)]
 struct Row {
     name: &'static str,
@@ -13,6 +13,7 @@ struct Row {
     workers: u64,
     events: &'static [&'static str],
     journal: &'static [&'static str],
+    answers: &'static [&'static str],
     history: &'static [&'static str],
     listing: &'static [&'static str],
 }
@@ -28,8 +29,10 @@ const RENAMED: Row = Row {
         "s1 read",
         "s1 undo",
         "s1 read",
+        "s1 ask name 10054",
         "s1 redo",
         "s1 read",
+        "s1 ask name 10054",
     ],
     journal: &[
         "s1 begin \"name\" = entry 1",
@@ -41,6 +44,7 @@ const RENAMED: Row = Row {
         "s1 redo = step 3",
         "s1 read = at 3",
     ],
+    answers: &["s1 8 none", "s1 11 \"start\""],
     history: &["commit s1 \"name\" 1", "undo s1", "redo s1"],
     listing: &[
         "00010054 imported block 00000010 r-x init",
@@ -74,6 +78,7 @@ const ROLLED_BACK: Row = Row {
         "s1 commit = rolled back",
         "w1 take 1 = job 2 flow:00010054",
     ],
+    answers: &[],
     history: &["full s1"],
     listing: &[
         "00010054 imported block 00000010 r-x init",
@@ -103,6 +108,7 @@ const WITHIN: Row = Row {
         "s1 abort = rolled back",
         "w1 take 4 = job 2 flow:00010054",
     ],
+    answers: &[],
     history: &[],
     listing: &[],
 };
@@ -131,6 +137,7 @@ const STALE: Row = Row {
         "w1 take 1 = job 2 flow:00010054",
         "w1 offer 2 = joined 2",
     ],
+    answers: &[],
     history: &[],
     listing: &[
         "00010054 imported block 00000010 r-x init",
@@ -163,6 +170,7 @@ const UNDONE: Row = Row {
         "s1 undo = step 3",
         "w1 offer 1 = joined 3",
     ],
+    answers: &[],
     history: &[
         "full s1",
         "commit s1 \"d\" 1",
@@ -184,6 +192,7 @@ const CANCELLED: Row = Row {
         "w1 offer 1 = refused cancelled 1",
         "s1 wait = voided",
     ],
+    answers: &[],
     history: &[],
     listing: &[],
 };
@@ -214,6 +223,7 @@ const REFUSED: Row = Row {
         "s1 wait = refused has entry 1",
         "s1 close = closed 1",
     ],
+    answers: &[],
     history: &[],
     listing: &[],
 };
@@ -222,7 +232,14 @@ const SETTLED: Row = Row {
     name: "a whole analysis settles",
     sessions: 1,
     workers: 1,
-    events: &["s1 full", "w1 settle 64", "s1 wait", "s1 read", "s1 close"],
+    events: &[
+        "s1 full",
+        "w1 settle 64",
+        "s1 wait",
+        "s1 read",
+        "s1 ask func 10061",
+        "s1 close",
+    ],
     journal: &[
         "s1 full = step 1",
         "w1 take 64 = job 1 flow:00010054",
@@ -239,6 +256,7 @@ const SETTLED: Row = Row {
         "s1 read = at 7",
         "s1 close = closed 0",
     ],
+    answers: &["s1 6 00010060"],
     history: &[
         "full s1",
         "commit w1 \"Analysis\" 3",
@@ -279,6 +297,7 @@ const KEPT_AWAY: Row = Row {
         "w1 settle 64",
     ],
     journal: &[],
+    answers: &[],
     history: &[],
     listing: &[
         "00010054 imported block 00000010 r-x init",
@@ -314,6 +333,7 @@ const RELEASED: Row = Row {
         "w1 settle 64",
     ],
     journal: &[],
+    answers: &[],
     history: &[],
     listing: &[
         "00010054 imported block 00000010 r-x init",
@@ -347,6 +367,7 @@ const DISABLED: Row = Row {
         "w1 take 4 = job 1 flow:00010054",
         "w1 offer 1 = joined 3",
     ],
+    answers: &[],
     history: &[
         "enable s1 flow off",
         "full s1",
@@ -441,6 +462,12 @@ fn event_files_give_their_texts(rt: HostRuntime) -> Result<(), Fail> {
         assert!(rt;
             is_wanted(row.journal, &journal, &texts.journal),
             "the journal of {}",
+            row.name
+        );
+        let answers = listed(alloc, "answers", row.answers, false)?;
+        assert!(rt;
+            is_wanted(row.answers, &answers, &texts.answers),
+            "the answers of {}",
             row.name
         );
         let history = listed(alloc, "history", row.history, true)?;

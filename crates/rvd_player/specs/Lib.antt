@@ -1,3 +1,4 @@
+pub mod Seen
 pub mod Lines
 pub mod Plays
 pub mod Analysed

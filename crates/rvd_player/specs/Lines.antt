@@ -1,7 +1,6 @@
--- What the lines of an event file add to a journal. Use `AreOf` for the entries of lines, `PlaysLine` for a desk that plays
--- one, and `LineFails` where an error comes; `first_unplayed` is the first line that can't be played yet.
-use Rattle.std.specs.Prelude.{◌≡◌, ℕ, ◌+◌, ◌<◌, Bool, true, false, not, ◌||◌, List, [], ◌∷◌, ◌++◌, find, length, Option, Some, Result, Ok, Err, ◌⊎◌}
-use Rattle.std.specs.Option.{option_map}
+-- What the lines of an event file add to a journal. Use `AreOf` for the entries of lines, `PlaysWhat` for a desk that plays
+-- one, and `LineFails` where an error comes.
+use Rattle.std.specs.Prelude.{◌≡◌, ℕ, ◌+◌, ◌<◌, Bool, true, false, ◌||◌, List, [], ◌∷◌, ◌++◌, length, Some, Result, Ok, Err, ◌⊎◌}
 use Rattle.rvd_event.specs.declared.events.Event.{Event}
 use Rattle.rvd_event.specs.declared.events.Event.TheVariants as event
 use Rattle.rvd_event.specs.declared.replies.Reply.{Reply}
@@ -19,19 +18,11 @@ use Rattle.rvd_desk.specs.declared.answers.DeskError.{DeskError}
 use Rattle.rvd_desk.specs.declared.answers.DeskError.TheVariants.{Refused, JournalFull, Stopped, OutOfMemory}
 use Rattle.rvd_settle.specs.Proper.{AreProper, IsProperTo}
 use Rattle.rvd_settle.specs.Settling.{ArePairs, IsTake}
+use Rattle.rvd_player.specs.Seen.{Seen, seen_after, seen_with, shown_by}
 
--- whether a line can be played: a query can't be yet
-abbrev pub is_played : What1 → Bool
-is_played (Call e) = true
-is_played (Ask query) = false
-is_played (Settle n) = true
-
--- the number of the first line that can't be
-abbrev pub first_unplayed : List EventLine → Option ℕ
-first_unplayed lines = option_map (λ (l : EventLine). l.line) (find (λ (l : EventLine). not (is_played l.what)) lines)
-
--- whether an event is always answered by a reply: a session's, but a wait
+-- whether an event is a session's that is always answered, by a reply that shows no program: any but a read and a wait
 abbrev pub is_answered : Event → Bool
+is_answered event.Read = false
 is_answered event.Wait = false
 is_answered (event.Take n) = false
 is_answered (event.Offer ticket) = false
@@ -48,23 +39,25 @@ AreOfCall s actor e [] = has_step s e ≡ false
 AreOfCall s actor e (x ∷ []) = (x.actor ≡ actor) × (x.event ≡ e)
 AreOfCall s actor e (x ∷ y ∷ entries) = ⊥
 
--- those of a line: a settle stands for pairs of a take and the offer of its ticket, until a take would give no job
+-- those of a line: a query has none, and a settle stands for pairs of a take and the offer of its ticket, until a take would
+-- give no job
 abbrev pub AreOfWhat : State → ℕ → What1 → List Entry → Type 0
 AreOfWhat s actor (Call e) entries = AreOfCall s actor e entries
-AreOfWhat s actor (Ask query) entries = ⊥
+AreOfWhat s actor (Ask query) entries = entries ≡ []
 AreOfWhat s actor (Settle n) entries =
     ArePairs s actor n entries × (let t = state_from s entries in (is_finished t || is_idle t) ≡ true)
 
--- those of lines, one after the other
-abbrev pub AreOf : State → List EventLine → List Entry → Type 0
-AreOf s [] entries = entries ≡ []
-AreOf s (l ∷ lines) entries =
-    (first : List Entry) × (rest : List Entry) × (entries ≡ first ++ rest) × AreOfWhat s l.actor l.what first × AreOf (state_from s first) lines rest
+-- those of lines, one list for each line
+abbrev pub AreOf : State → List EventLine → List (List Entry) → Type 0
+AreOf s [] [] = Unit {0}
+AreOf s [] (part ∷ parts) = ⊥
+AreOf s (l ∷ lines) [] = ⊥
+AreOf s (l ∷ lines) (part ∷ parts) = AreOfWhat s l.actor l.what part × AreOf (state_from s part) lines parts
 
 -- the first entries of a line: none, or pairs, or pairs and a take
 abbrev pub AreBegun : State → ℕ → What1 → List Entry → Type 0
 AreBegun s actor (Call e) entries = entries ≡ []
-AreBegun s actor (Ask query) entries = ⊥
+AreBegun s actor (Ask query) entries = entries ≡ []
 AreBegun s actor (Settle n) entries =
     ArePairs s actor n entries
     ⊎ ((pairs : List Entry) × (last : Entry) × (entries ≡ pairs ++ last ∷ []) × ArePairs s actor n pairs × IsTake actor n last)
@@ -74,15 +67,23 @@ abbrev pub PlaysCall : Story → ℕ → Event → Story → Type 0
 PlaysCall old actor e new =
     ((r : Reply) × Did old new actor e r × IsProperTo (state_of old) e r) ⊎ ((new ≡ old) × (has_step (state_of old) e ≡ false))
 
--- a desk plays a line: its journal gains the line's entries
-pub record PlaysWhat (old : Story) (actor : ℕ) (what : What1) (new : Story) : Type 0 where
+-- whether an event is a read
+abbrev pub IsRead : Event → Type 0
+IsRead e = e ≡ event.Read
+
+-- so it is, and its caller sees what it has read
+abbrev pub PlaysSeeing : Story → Seen → ℕ → Event → Story → Seen → Type 0
+PlaysSeeing old seen actor e new sees =
+    ((r : Reply) × Did old new actor e r × IsProperTo (state_of old) e r × (sees ≡ seen_with seen actor (shown_by (state_of old) e r)))
+    ⊎ ((new ≡ old) × (has_step (state_of old) e ≡ false) × (sees ≡ seen))
+
+-- a desk plays a line: its journal gains the line's entries, and each session sees what it has read
+pub record PlaysWhat (old : Story) (seen : Seen) (actor : ℕ) (what : What1) (new : Story) (sees : Seen) : Type 0 where
   pub entries : List Entry
   pub own : AreOfWhat (state_of old) actor what entries
   pub proper : AreProper (state_of old) entries
   pub grown : new ≡ record old { journal = old.journal ++ entries }
-
-abbrev pub PlaysLine : Story → EventLine → Story → Type 0
-PlaysLine old l new = PlaysWhat old l.actor l.what new
+  pub shown : sees ≡ seen_after (state_of old) seen entries
 
 -- a story has no room for a begin
 abbrev pub HasNoRoom : Story → Type 0

@@ -1,21 +1,25 @@
-ghost use Rattle.std.specs.Prelude.{◌≡◌, ◌≤◌, true, OnOk, IfOk, IfErr};
+ghost use Rattle.std.specs.Prelude.{◌≡◌, ◌≤◌, true, length, OnOk, IfOk, IfErr};
 ghost use Rattle.rvd_event.specs.declared.events.Event.TheVariants as event;
 ghost use Rattle.rvd_machine.specs.Steps.{may_call};
 ghost use Rattle.rvd_script.specs.Legal.{is_session_event};
 ghost use Rattle.rvd_desk.specs.Calls.{Did, Failed};
 ghost use Rattle.rvd_desk.specs.Story.{state_of};
-ghost use Rattle.rvd_player.specs.Lines.{CallFails, is_answered, is_callable, IsUnlessRefused, PlaysCall};
+ghost use Rattle.rvd_player.specs.Lines.{CallFails, is_answered, is_callable, IsRead, IsUnlessRefused, PlaysCall, PlaysSeeing};
 
-use rvd_desk::{Desk, DeskError};
+use crate::reads::note_read;
+use rvd_desk::{Desk, DeskError, Snapshot};
 use rvd_event::{Event, Reply};
 use rvd_settle::offer_taken;
 use std::alloc::Global;
 
-// Whether an event is always answered by a reply: a session's, but a wait.
+// Whether an event is a session's that is always answered, by a reply that shows no program.
 fn is_answered(event: &Event) -> bool
     ensures { result ≡ is_answered event.now }
 {
-    !matches!(event, Event::Wait | Event::Take(_) | Event::Offer(_))
+    !matches!(
+        event,
+        Event::Read | Event::Wait | Event::Take(_) | Event::Offer(_)
+    )
 }
 
 // A refused call is made too.
@@ -30,7 +34,7 @@ fn unless_refused(error: DeskError) -> Result<(), DeskError>
     }
 }
 
-// Makes the call of a session's event, but a wait: its reply.
+// Makes the call of a session's event, but a read and a wait: its reply.
 fn session_call(
     alloc: Global,
     desk: &mut Desk,
@@ -54,9 +58,8 @@ fn session_call(
         Event::Enable(analyzer, on) => {
             Ok(Reply::StepNo(desk.enable(alloc, actor, *analyzer, *on)?))
         }
-        Event::Read => Ok(Reply::At(desk.read(alloc, actor)?.steps())),
         Event::Close => Ok(Reply::Closed(desk.close_session(alloc, actor)?)),
-        Event::Wait | Event::Take(_) | Event::Offer(_) => unreachable!(),
+        Event::Read | Event::Wait | Event::Take(_) | Event::Offer(_) => unreachable!(),
     }
 }
 
@@ -111,9 +114,29 @@ fn offer(alloc: Global, desk: &mut Desk, actor: u32, ticket: u64) -> Result<(), 
     unless_refused(error)
 }
 
-/// Makes the call of an event. It is left out where it is a wait that goes on or a take that gives no job; a refused call is
-/// made too.
-pub(crate) fn perform(
+// A read. Its session then sees the committed program, where the read isn't refused.
+fn read(
+    alloc: Global,
+    desk: &mut Desk,
+    seen: &mut [Option<Snapshot>],
+    actor: u32,
+) -> Result<(), DeskError>
+    requires caller { may_call (state_of desk.old) actor event.Read ≡ true }
+    requires session { (1 ≤ actor) × (actor ≤ length seen.old) }
+    ensures ok { OnOk result (PlaysSeeing desk.old seen.old actor event.Read desk.new seen.new) }
+    ensures err { IfErr result (λ error. CallFails desk.old desk.new actor event.Read error) }
+{
+    match desk.read(alloc, actor) {
+        Ok(snapshot) => {
+            note_read(seen, actor, snapshot);
+            Ok(())
+        }
+        Err(error) => unless_refused(error),
+    }
+}
+
+// Makes the call of an event, but a read.
+fn perform_unseen(
     alloc: Global,
     desk: &mut Desk,
     actor: u32,
@@ -121,6 +144,7 @@ pub(crate) fn perform(
 ) -> Result<(), DeskError>
     requires caller { may_call (state_of desk.old) actor event.now ≡ true }
     requires legal { is_callable event.now ≡ true }
+    requires unseen { IsRead event.now → ⊥ }
     ensures ok { OnOk result (PlaysCall desk.old actor event.now desk.new) }
     ensures err { IfErr result (λ error. CallFails desk.old desk.new actor event.now error) }
 {
@@ -132,5 +156,26 @@ pub(crate) fn perform(
         Event::Take(n) => take(alloc, desk, actor, *n),
         Event::Offer(ticket) => offer(alloc, desk, actor, *ticket),
         _ => unreachable!(),
+    }
+}
+
+/// Makes the call of an event. It is left out where it is a wait that goes on or a take that gives no job; a refused call is
+/// made too. `seen` has what each session has read.
+pub(crate) fn perform(
+    alloc: Global,
+    desk: &mut Desk,
+    seen: &mut [Option<Snapshot>],
+    actor: u32,
+    event: &Event,
+) -> Result<(), DeskError>
+    requires caller { may_call (state_of desk.old) actor event.now ≡ true }
+    requires legal { is_callable event.now ≡ true }
+    requires session { IsRead event.now → (1 ≤ actor) × (actor ≤ length seen.old) }
+    ensures ok { OnOk result (PlaysSeeing desk.old seen.old actor event.now desk.new seen.new) }
+    ensures err { IfErr result (λ error. CallFails desk.old desk.new actor event.now error) }
+{
+    match event {
+        Event::Read => read(alloc, desk, seen, actor),
+        _ => perform_unseen(alloc, desk, actor, event),
     }
 }

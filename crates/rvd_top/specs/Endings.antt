@@ -4,7 +4,6 @@ use Rattle.std.specs.Prelude.{◌≡◌, ℕ, List, [], take, Option, Some, None
 use Rattle.std.specs.Io.KnownBytes.{Appends}
 use Rattle.rvd_fact.specs.declared.cells.Change.{Change}
 use Rattle.rvd_fact.specs.declared.causes.What.TheVariants.{FileBytes, Lines, Entries}
-use Rattle.rvd_fact.specs.declared.causes.TextCause.TheVariants.{UnknownWord}
 use Rattle.rvd_fact.specs.Program.{Program, applied_all}
 use Rattle.rvd_script.specs.declared.errors.ScriptError.{ScriptError}
 use Rattle.rvd_script.specs.declared.errors.ScriptError.TheVariants.{TooManyLines, Bad, OutOfMemory}
@@ -20,7 +19,6 @@ use Rattle.rvd_top.specs.Texts.{IsTextOf, PrintFills}
 use Rattle.rvd_machine.specs.Steps.{max_entries}
 use Rattle.rvd_desk.specs.declared.answers.DeskError.{DeskError}
 use Rattle.rvd_desk.specs.declared.answers.DeskError.TheVariants as desk
-use Rattle.rvd_player.specs.Lines.{first_unplayed}
 use Rattle.rvd_player.specs.Plays.{FillsJournal, head_of}
 use Rattle.rvd_top.specs.Plays.{IsPlayed}
 
@@ -70,19 +68,13 @@ script_ending (Bad line cause) = BadText 2 line cause
 script_ending OutOfMemory = Memory
 
 -- How playing an event file on a program ends, and what the sink then holds: the whole text of what its lines lead to, or
--- a front of it after a fault of writing; a line that can't be played yet is refused.
-abbrev pub PlaysOn : Option (List ℕ) → Option (List ℕ) → Program → Events → Option ℕ → Ending → Type 0
-PlaysOn old new P file None Done = (text : List ℕ) × IsPlayed P file text × Appends old new text
-PlaysOn old new P file None WriteFault = (text : List ℕ) × IsPlayed P file text × ((n : ℕ) × Appends old new (take n text))
-PlaysOn old new P file None (TooLarge Entries count) = (count ≡ max_entries) × ((length : ℕ) × FillsJournal (head_of P file) file.lines length)
-PlaysOn old new P file None ending = ⊥
-PlaysOn old new P file (Some line) Done = ⊥
-PlaysOn old new P file (Some line) WriteFault = ⊥
-PlaysOn old new P file (Some line) ending = ending ≡ BadText 2 line UnknownWord
-
-abbrev pub PlaysOrMemory : Option (List ℕ) → Option (List ℕ) → Program → Events → Ending → Type 0
-PlaysOrMemory old new P file Memory = Unit {0}
-PlaysOrMemory old new P file ending = PlaysOn old new P file (first_unplayed file.lines) ending
+-- a front of it after a fault of writing. Memory may always run out, and the journal may be full.
+abbrev pub PlaysOn : Option (List ℕ) → Option (List ℕ) → Program → Events → Ending → Type 0
+PlaysOn old new P file Memory = Unit {0}
+PlaysOn old new P file Done = (text : List ℕ) × IsPlayed P file text × Appends old new text
+PlaysOn old new P file WriteFault = (text : List ℕ) × IsPlayed P file text × ((n : ℕ) × Appends old new (take n text))
+PlaysOn old new P file (TooLarge Entries count) = (count ≡ max_entries) × ((length : ℕ) × FillsJournal (head_of P file) file.lines length)
+PlaysOn old new P file ending = ⊥
 
 -- How `play` ends on what is imported and on what an event file says: a refusal of either ends it, the import's first.
 -- Memory may always run out.
@@ -94,7 +86,7 @@ PlaysBoth old new (Err refusal) events ending = ending ≡ ending_of refusal
 PlaysBoth old new (Ok changes) (Err refusal) Done = ⊥
 PlaysBoth old new (Ok changes) (Err refusal) WriteFault = ⊥
 PlaysBoth old new (Ok changes) (Err refusal) ending = ending ≡ script_ending refusal
-PlaysBoth old new (Ok changes) (Ok file) ending = PlaysOrMemory old new (applied_all [] changes) file ending
+PlaysBoth old new (Ok changes) (Ok file) ending = PlaysOn old new (applied_all [] changes) file ending
 
 -- How it ends on the bytes of both files within the limit. Whether a fault of reading comes isn't told by them.
 abbrev pub PlayEnds : Option (List ℕ) → Option (List ℕ) → List ℕ → List ℕ → Ending → Type 0

@@ -1,7 +1,7 @@
 -- What a run of a command promises, as one record that each call cites. A cabinet holds files and counts its faults, and a
 -- sink has contents and counts its faults; the run took the cabinet from files to files', the sink from out to out', and
 -- ended so.
-use Rattle.std.specs.Prelude.{◌≡◌, ◌↔◌, ◌⊎◌, ℕ, ◌<◌, ◌≤◌, List, length, [], false, Option, None, Some, Ok}
+use Rattle.std.specs.Prelude.{◌≡◌, ◌↔◌, ◌⊎◌, ℕ, ◌<◌, ◌≤◌, List, length, [], false, Option, Some, Ok}
 use Rattle.std.specs.Io.KnownBytes.{Appends}
 use Rattle.rvd_io.specs.Causes.{Rose}
 use Rattle.rvd_fact.specs.declared.cells.Change.{Change}
@@ -13,7 +13,6 @@ use Rattle.rvd_top.specs.declared.endings.Ending.{Ending}
 use Rattle.rvd_top.specs.declared.endings.Ending.TheVariants.{Done, Usage, ReadFault, WriteFault}
 use Rattle.rvd_top.specs.declared.words.Print.{Print}
 use Rattle.rvd_top.specs.Texts.{IsTextOf}
-use Rattle.rvd_player.specs.Lines.{first_unplayed}
 use Rattle.rvd_top.specs.Plays.{IsPlayed}
 use Rattle.rvd_top.specs.Words.{is_command, print_of, play_of}
 use Rattle.rvd_top.specs.Endings.{Ends, EndsAbove, PlayEnds, IsWithoutFault, KeepsSink}
@@ -41,14 +40,14 @@ pub record PrintRuns {C K : Type 0} (held : C → List ℕ → Option (List ℕ)
 -- what `play FILE EVENTS` promises
 pub record PlayRuns {C K : Type 0} (held : C → List ℕ → Option (List ℕ)) (read_faults : C → ℕ) (contents : K → Option (List ℕ)) (write_faults : K → ℕ)
     (file events : List ℕ) (files files' : C) (out out' : K) (ending : Ending) : Type 0 where
-  -- On Done the file is imported, the event file is in the grammar, and the sink gains the text of the state to which the
-  -- event file's calls lead on the imported program: they are the entries of a legal journal.
+  -- On Done the file is imported, the event file is in the grammar, and the sink gains a legal journal on the imported program
+  -- whose entries are the event file's calls, the answers to its queries, and the history and the listing of what it leads to.
   pub done : ending ≡ Done → (bytes lines : List ℕ) → held files file ≡ Some bytes → held files events ≡ Some lines
       → (changes : List Change) × (script : Events) × (text : List ℕ) × (import_of bytes ≡ Ok changes) × (events_of lines ≡ Ok script)
       × IsPlayed (applied_all [] changes) script text × Appends (contents out) (contents out') text
-  -- Where both are so, each line can be played, and no count of faults rose, it ends with Done or Memory, or with too many entries by their row.
+  -- Where both are so, and no count of faults rose, it ends with Done or Memory, or with too many entries by their row.
   pub complete : (bytes lines : List ℕ) (changes : List Change) (script : Events) → held files file ≡ Some bytes → held files events ≡ Some lines
-      → length bytes ≤ max_file → length lines ≤ max_file → import_of bytes ≡ Ok changes → events_of lines ≡ Ok script → first_unplayed script.lines ≡ None
+      → length bytes ≤ max_file → length lines ≤ max_file → import_of bytes ≡ Ok changes → events_of lines ≡ Ok script
       → (Rose (read_faults files) (read_faults files') → ⊥) → (Rose (write_faults out) (write_faults out') → ⊥) → IsWithoutFault ending
   -- Which ending comes of files whose bytes the cabinet tells: each refusal exactly where the import or the grammar refuses
   -- so, and too large exactly where the bytes of the first or then of the second pass the limit.

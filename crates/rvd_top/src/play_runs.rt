@@ -1,20 +1,15 @@
-ghost use Rattle.std.specs.Prelude.{◌≡◌, ◌≢◌, ◌⊎◌, ◌++◌, ◌<◌, ◌≤◌, [], ℕ, List, None, Some, Ok, IfOk, IfErr, length};
+ghost use Rattle.std.specs.Prelude.{◌≡◌, ◌≢◌, ◌⊎◌, ◌<◌, ◌≤◌, [], ℕ, List, Some, Ok, IfOk, IfErr, length};
 ghost use Rattle.std.specs.Io.KnownBytes.{Appends};
 ghost use Rattle.rvd_io.specs.Causes.{Rose};
 ghost use Rattle.rvd_fact.specs.declared.cells.Change.{Change};
 ghost use Rattle.rvd_fact.specs.Program.{applied_all};
 ghost use Rattle.rvd_elf.specs.Import.{import_of};
-ghost use Rattle.rvd_machine.specs.State.{base};
-ghost use Rattle.rvd_desk.specs.Story.{state_of};
-ghost use Rattle.rvd_report.specs.History.{history};
-ghost use Rattle.rvd_report.specs.Listing.{listing};
 ghost use Rattle.rvd_script.specs.Legal.{Events};
 ghost use Rattle.rvd_script.specs.Files.{events_of};
-ghost use Rattle.rvd_player.specs.Lines.{first_unplayed};
 ghost use Rattle.rvd_player.specs.Plays.{head_of, PlayFails};
-ghost use Rattle.rvd_top.specs.Plays.{IsPlayed};
+ghost use Rattle.rvd_top.specs.Plays.{desk_text, IsPlayed};
 ghost use Rattle.rvd_top.specs.Runs.{PlayRuns};
-ghost use Rattle.rvd_top.specs.Endings.{PlayEnds, PlaysBoth, PlaysOrMemory, EndsAbove, IsWithoutFault, KeepsSink};
+ghost use Rattle.rvd_top.specs.Endings.{PlayEnds, PlaysBoth, PlaysOn, EndsAbove, IsWithoutFault, KeepsSink};
 
 use crate::endings::Ending;
 use crate::runs::MAX_FILE;
@@ -22,27 +17,35 @@ use crate::texts::program_of;
 use rvd_desk::{Desk, DeskError};
 use rvd_elf::import;
 use rvd_event::Names;
-use rvd_fact::{TextCause, What};
+use rvd_fact::What;
 use rvd_io::{Cabinet, FetchError, PutError, Sink, put_all};
-use rvd_player::{first_unplayed, play};
+use rvd_journal_text::print;
+use rvd_player::{Played, play};
 use rvd_program::Program;
-use rvd_report::{history, listing};
+use rvd_report::{Answered, answers, history, listing};
 use rvd_script::{EventFile, read_events};
 use std::alloc::{AllocError, Global};
 
-// The history and the listing of a desk.
-fn desk_text(alloc: Global, desk: &Desk, names: Names) -> Result<Vec<u8>, AllocError>
-    ensures { IfOk result (λ text. text.items ≡ history (state_of desk.now).steps names ++ listing (base (state_of desk.now))) }
+// The journal, the answers to queries, the history and the listing of a desk.
+fn desk_text(
+    alloc: Global,
+    desk: Desk,
+    answered: &[Answered],
+    names: Names,
+) -> Result<Vec<u8>, AllocError>
+    ensures { IfOk result (λ text. text.items ≡ desk_text names desk answered.now) }
 {
+    let (base, steps, journal) = desk.close();
     let mut text = Vec::new(alloc);
-    history(desk.steps(), names, &mut text)?;
-    listing(alloc, desk.base(), &mut text)?;
+    print(&journal, names, &mut text)?;
+    answers(answered, &mut text)?;
+    history(&steps, names, &mut text)?;
+    listing(alloc, &base, &mut text)?;
     Ok(text)
 }
 
 // The text of playing an event file on a program.
 fn played_text(alloc: Global, program: Program, file: &EventFile) -> Result<Vec<u8>, DeskError>
-    requires { first_unplayed file.now.lines ≡ None }
     ensures ok { IfOk result (λ text. IsPlayed program file.now text.items) }
     ensures err { IfErr result (λ error. PlayFails (head_of program file.now) file.now.lines error) }
 {
@@ -50,8 +53,8 @@ fn played_text(alloc: Global, program: Program, file: &EventFile) -> Result<Vec<
         sessions: file.sessions(),
         workers: file.workers(),
     };
-    let desk = play(alloc, program, file)?;
-    match desk_text(alloc, &desk, names) {
+    let Played { desk, answers } = play(alloc, program, file)?;
+    match desk_text(alloc, desk, &answers, names) {
         Ok(text) => Ok(text),
         Err(_) => Err(DeskError::OutOfMemory),
     }
@@ -59,19 +62,12 @@ fn played_text(alloc: Global, program: Program, file: &EventFile) -> Result<Vec<
 
 // Plays an event file on a program and puts the text.
 fn play_on<K: Sink>(alloc: Global, program: Program, file: &EventFile, out: &mut K) -> Ending
-    ensures plays { PlaysOrMemory (K.contents out.old) (K.contents out.new) program file.now result }
+    ensures plays { PlaysOn (K.contents out.old) (K.contents out.new) program file.now result }
     ensures sink { KeepsSink result out.old out.new }
     ensures read { (word : ℕ) → result ≢ Ending.ReadFault word }
     ensures usage { result ≢ Ending.Usage }
     ensures write { result ≡ Ending.WriteFault → Rose (K.faults out.old) (K.faults out.new) }
 {
-    if let Some(line) = first_unplayed(file.lines()) {
-        return Ending::BadText {
-            word: 2,
-            line,
-            cause: TextCause::UnknownWord,
-        };
-    }
     let text = match played_text(alloc, program, file) {
         Ok(text) => text,
         Err(error) => return Ending::of_desk(error),
@@ -117,7 +113,7 @@ fn run_on_files<C: Cabinet, K: Sink>(
         × IsPlayed (applied_all [] changes) script text × Appends (K.contents out.old) (K.contents out.new) text }
     ensures complete { (bytes lines : List ℕ) (changes : List Change) (script : Events) → C.held files.old file.now ≡ Some bytes
         → C.held files.old events.now ≡ Some lines → length bytes ≤ MAX_FILE → length lines ≤ MAX_FILE → import_of bytes ≡ Ok changes
-        → events_of lines ≡ Ok script → first_unplayed script.lines ≡ None → (Rose (C.faults files.old) (C.faults files.new) → ⊥)
+        → events_of lines ≡ Ok script → (Rose (C.faults files.old) (C.faults files.new) → ⊥)
         → (Rose (K.faults out.old) (K.faults out.new) → ⊥) → IsWithoutFault result }
     ensures within { (bytes lines : List ℕ) → C.held files.old file.now ≡ Some bytes → C.held files.old events.now ≡ Some lines
         → length bytes ≤ MAX_FILE → length lines ≤ MAX_FILE → PlayEnds (K.contents out.old) (K.contents out.new) bytes lines result }
