@@ -1,6 +1,6 @@
 -- What is left of an entry without the bytes of blocks has the same text and is in range too. Use `bare_entry-line` and
 -- `bare_entry-range`.
-use Rattle.std.proofs.Common.{◌≡◌, ℕ, ◌+◌, ◌^◌, ◌<◌, Bool, true, false, ◌&&◌, List, [], ◌∷◌, ◌++◌, map, Some, None, codes, refl, sym, ap, ◌∙◌, arith}
+use Rattle.std.proofs.Common.{◌≡◌, ℕ, Bool, ◌&&◌, List, [], ◌∷◌, ◌++◌, map, Some, None, codes, refl, ap, ◌∙◌}
 use Rattle.std.specs.List.{AllByRecursion, list_all}
 use Rattle.std.specs.Fmt.{decimal}
 use Rattle.rvd_fact.specs.declared.keys.Key.{Key}
@@ -13,12 +13,12 @@ use Rattle.rvd_ask.specs.declared.answers.Answer.TheVariants as answer
 use Rattle.rvd_ask.specs.Forms.{has_form}
 use Rattle.rvd_event.specs.declared.queries.Names.{Names}
 use Rattle.rvd_event.specs.declared.verdicts.Verdict.{Verdict}
-use Rattle.rvd_event.specs.declared.verdicts.Verdict.TheVariants.{Joined, Nothing, Off, Stale, Foreign}
+use Rattle.rvd_event.specs.declared.verdicts.Verdict.TheVariants.{Stale, Foreign}
 use Rattle.rvd_event.specs.declared.replies.Reply.{Reply}
-use Rattle.rvd_event.specs.declared.replies.Reply.TheVariants.{Entry as EntryNo, Changed, Waiting, Committed, RolledBack, StepNo, At, SettledAt, Voided, Closed, Job, Verdicts, Refused}
+use Rattle.rvd_event.specs.declared.replies.Reply.TheVariants.{Verdicts}
 use Rattle.rvd_event.specs.Verdicts.{has_forms}
 use Rattle.rvd_journal.specs.declared.entries.Entry.{Entry}
-use Rattle.rvd_notation.specs.Values.{fact_text, value_text}
+use Rattle.rvd_notation.specs.Values.{fact_text}
 use Rattle.rvd_notation.specs.Actors.{actor_text}
 use Rattle.rvd_notation.specs.Words.{source_word}
 use Rattle.rvd_reading.specs.Values.{FitsValue, bare}

@@ -3,16 +3,14 @@ use Rattle.std.proofs.Common.{◌≡◌, ℕ, zero, suc, ◌+◌, ◌/◌, ◌%�
 use Rattle.std.specs.Prelude.{nat_eq}
 use Rattle.std.specs.List.{AllByRecursion, starts_with}
 use Rattle.std.specs.Char.{digit_char}
-use Rattle.std.specs.Fmt.{decimal}
 use Rattle.std.proofs.lemmas.Bool.Decides.{nat_tests}
 use Rattle.rvd_text.specs.Hex.{hex8}
 use Rattle.rvd_text.specs.Quoted.{quoted}
 use Rattle.rvd_fact.specs.declared.keys.Key.{Key}
-use Rattle.rvd_fact.specs.declared.keys.Kind.{Kind}
 use Rattle.rvd_fact.specs.Ranges.{AreRangesFrom, is_range_set}
 use Rattle.rvd_event.specs.declared.edits.Edit.{Edit}
 use Rattle.rvd_event.specs.declared.edits.Edit.TheVariants.{Block, Mark, Func, Body, Label, Ref, Comment, Bookmark, Code, Datum, Clear, Remove, Release}
-use Rattle.rvd_notation.specs.Words.{bookmark_word, class_word, comment_word, form_words, key_text, perm_word, range_text}
+use Rattle.rvd_notation.specs.Words.{bookmark_word, class_word, comment_word, form_words, perm_word, range_text}
 use Rattle.rvd_reading.specs.Steps.{◌>>=◌, Step}
 use Rattle.rvd_reading.specs.Lists.{set_of}
 use Rattle.rvd_reading.proofs.WordsBack.{class-back}
@@ -22,8 +20,8 @@ use Rattle.rvd_reading.proofs.FactsBack.{bookmark_type-back, comment_kind-back, 
 use Rattle.rvd_reading.proofs.ActorsBack.{range-back}
 use Rattle.rvd_reading.proofs.SetsBack.{are_ranges}
 use Rattle.rvd_journal_text.specs.Edits.{edit_text, range_words}
-use Rattle.rvd_line_reading.specs.Edits.{FitsEdit, FitsText, block_of, body_of, bookmark_of, comment_of, datum_of, edit_of, label_of, next_range_of, range_set_of, range_words_of, ranges_to, ref_of}
-use Rattle.rvd_line_reading.proofs.Flats.{flat3, flat4, flat5, flat6}
+use Rattle.rvd_line_reading.specs.Edits.{FitsEdit, block_of, body_of, bookmark_of, comment_of, datum_of, edit_of, label_of, next_range_of, range_set_of, range_words_of, ranges_to, ref_of}
+use Rattle.rvd_line_reading.proofs.Flats.{flat3, flat4, flat6}
 
 -- what stands behind an event
 abbrev pub sign : List ℕ → List ℕ

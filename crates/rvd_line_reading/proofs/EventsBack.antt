@@ -1,5 +1,5 @@
 -- Events are read back, behind which a space and a sign stand. Use `event_law`.
-use Rattle.std.proofs.Common.{◌≡◌, ℕ, ◌+◌, ◌^◌, ◌<◌, ◌≤◌, true, false, List, ◌++◌, Some, codes, refl, ap, ◌∙◌, arith, append_assoc}
+use Rattle.std.proofs.Common.{◌≡◌, ℕ, true, false, List, ◌++◌, Some, refl, ap, ◌∙◌, arith}
 use Rattle.rvd_event.specs.declared.edits.Edit.{Edit as AnEdit}
 use Rattle.rvd_event.specs.declared.edits.Edit.TheVariants.{Block, Mark, Func, Body, Label, Ref, Comment, Bookmark, Code, Datum, Clear, Remove, Release}
 use Rattle.rvd_event.specs.declared.events.Event.{Event}
@@ -10,7 +10,6 @@ use Rattle.rvd_reading.proofs.NumbersBack.{number-back}
 use Rattle.rvd_reading.proofs.TextsBack.{text-back}
 use Rattle.rvd_journal_text.specs.Edits.{edit_text}
 use Rattle.rvd_journal_text.specs.Events.{event_text}
-use Rattle.rvd_line_reading.specs.Edits.{edit_of}
 use Rattle.rvd_line_reading.specs.Events.{FitsEvent, edit_event_of, event_of}
 use Rattle.rvd_line_reading.specs.Laws.{EventLaw}
 use Rattle.rvd_line_reading.proofs.EditsBack.{edit-back, sign}

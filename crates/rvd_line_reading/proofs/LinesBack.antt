@@ -1,6 +1,5 @@
 -- Whole lines are read back. Use `line_law`, and `unread`, `out_of_range` and `spelled_otherwise` where no entry has a line.
-use Rattle.std.proofs.Common.{◌≡◌, ℕ, ◌+◌, ◌^◌, ◌<◌, ◌≤◌, true, false, ◌&&◌, List, [], ◌++◌, Option, Some, None, codes, refl, sym, ap, subst, ◌∙◌, arith, append_assoc, append-nil}
-use Rattle.std.specs.Prelude.{nat_lt, nat_le}
+use Rattle.std.proofs.Common.{◌≡◌, ℕ, ◌+◌, ◌^◌, ◌<◌, ◌≤◌, true, List, [], ◌++◌, Option, Some, None, codes, refl, sym, ap, subst, ◌∙◌, arith, append-nil}
 use Rattle.std.specs.Fmt.{decimal}
 use Rattle.std.proofs.lemmas.Bool.Decides.{nat_tests}
 use Rattle.rvd_event.specs.declared.queries.Names.{Names}
@@ -12,7 +11,7 @@ use Rattle.rvd_reading.proofs.NumbersBack.{number-back}
 use Rattle.rvd_journal_text.specs.Events.{event_text}
 use Rattle.rvd_journal_text.specs.Replies.{reply_text}
 use Rattle.rvd_journal_text.specs.Lines.{call_text, entry_line, settled_text}
-use Rattle.rvd_line_reading.specs.Replies.{bare_reply, has_ended}
+use Rattle.rvd_line_reading.specs.Replies.{has_ended}
 use Rattle.rvd_line_reading.specs.Lines.{FitsSettled, IsInRange, IsNoLine, bare_entry, call_of, entry_of, is_actor, line_of, nothing_behind, settled_of}
 use Rattle.rvd_line_reading.specs.Laws.{LineLaw}
 use Rattle.rvd_line_reading.proofs.BareTexts.{bare_entry-line, bare_entry-range}

@@ -1,5 +1,5 @@
 -- Replies are read back, behind which nothing or a semicolon stands. Use `reply_law`.
-use Rattle.std.proofs.Common.{◌≡◌, ℕ, zero, suc, ◌+◌, ◌^◌, ◌<◌, ◌≤◌, Bool, true, false, cond, ◌&&◌, List, [], ◌∷◌, ◌++◌, map, length, drop, Some, codes, refl, sym, ap, subst, ◌∙◌, arith, append_assoc, length-append}
+use Rattle.std.proofs.Common.{◌≡◌, ℕ, zero, suc, ◌^◌, ◌<◌, ◌≤◌, Bool, true, false, cond, List, [], ◌∷◌, ◌++◌, map, length, drop, Some, codes, refl, sym, ap, subst, ◌∙◌, arith, append_assoc, length-append}
 use Rattle.std.specs.Prelude.{nat_eq}
 use Rattle.std.specs.List.{AllByRecursion, list_all, starts_with}
 use Rattle.std.specs.Fmt.{decimal}
@@ -19,7 +19,7 @@ use Rattle.rvd_reading.proofs.WordsBack.{analyzer-back}
 use Rattle.rvd_reading.proofs.NumbersBack.{hex8-back, number-back}
 use Rattle.rvd_reading.proofs.ListsBack.{elements, list-back}
 use Rattle.rvd_journal_text.specs.Verdicts.{more_verdicts, verdict_text}
-use Rattle.rvd_journal_text.specs.Replies.{item_text, item_words, refusal_text, reply_text}
+use Rattle.rvd_journal_text.specs.Replies.{item_text, item_words, reply_text}
 use Rattle.rvd_journal_reading.specs.Verdicts.{FitsVerdict, bare_verdict, verdict_of}
 use Rattle.rvd_journal_reading.proofs.AnswersBack.{both}
 use Rattle.rvd_journal_reading.proofs.RefusalsBack.{refusal_law}

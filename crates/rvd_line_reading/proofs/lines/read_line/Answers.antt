@@ -1,4 +1,4 @@
-use Rattle.std.proofs.Common.{◌≡◌, true, false, Err, subst}
+use Rattle.std.proofs.Common.{Err, subst}
 use Rattle.rvd_reading.specs.declared.errors.ReadError.{ReadError}
 use Rattle.rvd_line_reading.specs.Lines.{ReadsLine, line_of}
 use Rattle.rvd_line_reading.proofs.LinesBack.{out_of_range, spelled_otherwise, unread}
