@@ -1,0 +1,9 @@
+pub mod Types
+pub mod RangeSteps
+pub mod Ended
+pub mod Flats
+pub mod RepliesBack
+pub mod EditsBack
+pub mod EventsBack
+pub mod BareTexts
+pub mod LinesBack

@@ -1,0 +1,5 @@
+pub mod Replies
+pub mod Edits
+pub mod Events
+pub mod Lines
+pub mod Laws
