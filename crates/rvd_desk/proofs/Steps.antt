@@ -9,6 +9,7 @@ use Rattle.rvd_machine.specs.State.{State}
 use Rattle.rvd_machine.specs.Sound.{AreClosed, IsClosedAt, SettledIsClosed}
 use Rattle.rvd_machine.specs.Steps.{Head, IsLegal, IsStep, after, has_room, may_call, start_of, state, state_from}
 use Rattle.rvd_machine.proofs.Journals.{legal-push, state-push}
+use Rattle.rvd_engine.specs.Admitted.{IsAnswer}
 use Rattle.rvd_engine.specs.Performed.{Performed}
 use Rattle.rvd_desk.specs.Calls.{Did}
 use Rattle.rvd_desk.specs.Story.{Kept, Story, entry_of, state_of}
@@ -60,3 +61,20 @@ pub kept_in : (d : Story) (s t : State) (a : ℕ) (e : Event) (r : Reply) (noted
 kept_in d s t a e r noted entries are k p legal caller room =
     subst (λ (es : List Entry). Kept (record d { journal = es }) t) (sym are)
     (kept d s t a e r noted k p legal (ap (λ (u : State). may_call u a e) k.at_end ∙ caller) (ap (λ (u : State). has_room u a e) k.at_end ∙ room))
+
+-- an entry that is admitted is a step, and one whose answer the machine may not give is none
+pub admitted : (d : Story) (s t : State) (x : Entry) → Kept d s → Performed s t x.actor x.event x.reply x.settled → is_event x.event ≡ true → may_call (state_of d) x.actor x.event ≡ true → has_room (state_of d) x.actor x.event ≡ true
+    → IsStep (state_of d) x
+admitted d s t x k p legal caller room =
+    subst (λ (u : State). IsStep u x) k.at_end
+    (step_of s t x.actor x.event x.reply x.settled p legal (ap (λ (u : State). may_call u x.actor x.event) k.at_end ∙ caller) (ap (λ (u : State). has_room u x.actor x.event) k.at_end ∙ room))
+
+pub not_admitted : (d : Story) (s : State) (x : Entry) → Kept d s → (IsAnswer s x.actor x.event x.reply x.settled → ⊥) → IsStep (state_of d) x → ⊥
+not_admitted d s x k none step =
+    let here : IsStep s x = subst (λ (u : State). IsStep u x) (sym k.at_end) step in
+    none (record { reply = here.reply; named = here.settled })
+
+-- and a machine and a journal that are as before keep what they kept
+pub unchanged : (d : Story) (s t : State) (entries : List Entry) → entries ≡ d.journal → t ≡ s → Kept d s → Kept (record d { journal = entries }) t
+unchanged d s t entries are same k =
+    subst (λ (es : List Entry). Kept (record d { journal = es }) t) (sym are) (subst (Kept d) (sym same) k)

@@ -6,11 +6,14 @@
 //! * Sessions call `begin`, `edit`, `end`, `undo`, `redo`, `full`, `cancel`, `enable`, `read`, `wait_test` and
 //!   `close_session`; workers call `take` and `offer`. A refused call is journaled and changes nothing else. `status` tells
 //!   what stands, `stop` stops the desk for good, and `close` gives what it has.
+//! * `admit` judges an entry of a journal as the next step, and does it.
 //! * [`Snapshot`] is what a read gives, [`Job`] what a take gives.
 //!
-//! The definitions stand in `specs/`: `Story` says what contracts see of a desk, and `Calls` what a call does.
+//! The definitions stand in `specs/`: `Story` says what contracts see of a desk, `Calls` what a call does, and `Admission`
+//! what the admission of an entry does.
 #![tactic(auto)]
 
+mod admission;
 mod answers;
 mod calls;
 mod desk;

@@ -8,3 +8,5 @@ mod Lengths
 mod Waking
 mod Switching
 mod Ending
+pub mod Emptiness
+mod OfferReplies

@@ -1,9 +1,9 @@
-ghost use Rattle.std.specs.Prelude.{◌≡◌, true, false, List, IfOk, OnOk, OnErr};
+ghost use Rattle.std.specs.Prelude.{◌≡◌, ◌&&◌, ◌==◌, true, false, List, length, IfOk, OnOk, OnErr};
 ghost use Rattle.rvd_ask.specs.declared.asks.Item.{Item as AnItem};
 ghost use Rattle.rvd_ask.specs.Unsettled.{are_in_order};
 ghost use Rattle.rvd_event.specs.declared.events.Event.TheVariants as event;
 ghost use Rattle.rvd_machine.specs.Enabled.{all_candidates};
-ghost use Rattle.rvd_machine.specs.State.{is_session};
+ghost use Rattle.rvd_machine.specs.State.{base, is_session, work};
 ghost use Rattle.rvd_queue.specs.Sets.{with_all};
 ghost use Rattle.rvd_engine.specs.Inside.{enabled_of};
 ghost use Rattle.rvd_engine.specs.Performed.{Answers, is_plain};
@@ -35,6 +35,14 @@ fn all_candidates(
         }
     }
     Ok(list)
+}
+
+// Whether no enabled analyzer has a candidate. Only want of memory refuses it.
+fn has_none(alloc: Global, program: &Program, enabled: Switches) -> Result<bool, AllocError>
+    ensures { IfOk result (λ none. none ≡ (length (all_candidates (enabled_of enabled) program.now) == 0)) }
+{
+    let list = all_candidates(alloc, program, enabled)?;
+    Ok(list.is_empty())
 }
 
 // Queues items of the working program and of the committed one, and keeps the latter. Only want of memory refuses it, and
@@ -76,6 +84,17 @@ impl Machine {
         self.whole = true;
         self.due = true;
         Ok(Reply::StepNo(self.steps.len() as u64))
+    }
+
+    /// Whether a whole analysis would find nothing: no enabled analyzer has a candidate in the working or the committed
+    /// program. Only want of memory refuses it.
+    pub fn finds_nothing(&self, alloc: Global) -> Result<bool, AllocError>
+        ensures { let E = self.now.enabled in
+            IfOk result (λ none. none ≡ (length (all_candidates E (work self.now)) == 0 && length (all_candidates E (base self.now)) == 0)) }
+    {
+        let none_of_work = has_none(alloc, self.work(), self.enabled)?;
+        let none_of_base = has_none(alloc, &self.base, self.enabled)?;
+        Ok(none_of_work && none_of_base)
     }
 
     // Enables an analyzer.

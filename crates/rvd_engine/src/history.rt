@@ -7,8 +7,8 @@ use crate::machine::Machine;
 use rvd_event::{Refusal, Reply, Step};
 use std::alloc::AllocError;
 
-// The number of the last Settled step, or 0 where there is none.
-fn last_settled(steps: &[Step]) -> u64
+/// The number of the last Settled step, or 0 where there is none.
+pub(crate) fn last_settled(steps: &[Step]) -> u64
     ensures { result ≡ last_settled steps.now }
 {
     let mut number: u64 = 0;
@@ -23,16 +23,17 @@ fn last_settled(steps: &[Step]) -> u64
 }
 
 impl Machine {
-    // How many transactions can be undone, and how many redone.
+    /// How many transactions can be undone.
     #[tactic(auto, using(crate::proofs::Lengths::past_length))]
-    fn undoable(&self) -> u32
+    pub fn undoable(&self) -> u32
         ensures { result ≡ length self.now.history.past }
     {
         self.undos.depth()
     }
 
+    /// How many transactions can be redone.
     #[tactic(auto, using(crate::proofs::Lengths::undone_length))]
-    fn redoable(&self) -> u32
+    pub fn redoable(&self) -> u32
         ensures { result ≡ length self.now.history.undone }
     {
         self.undos.height()

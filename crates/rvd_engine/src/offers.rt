@@ -196,8 +196,8 @@ impl Machine {
         Ok(())
     }
 
-    // Takes an offer's outcome in.
-    fn take_in(
+    /// Takes an offer's outcome in.
+    pub(crate) fn take_in(
         &mut self,
         alloc: Global,
         actor: u32,

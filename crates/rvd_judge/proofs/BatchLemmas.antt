@@ -1,7 +1,7 @@
--- What exact verdicts make of a batch. Use `exact-batches` for the verdicts on it, and `batch_end` for what it is
--- after them.
-use Rattle.std.proofs.Common.{◌≡◌, ℕ, ◌+◌, ◌<◌, Bool, true, false, ◌&&◌, ◌||◌, not, List, [], ◌∷◌, ◌++◌, length, map, refl, sym, ap, ◌∙◌, subst, arith, length-append, zero-add, inl, inr}
-use Rattle.std.specs.Prelude.{Option, Some, None, ◌⊎◌}
+-- What verdicts make of a batch. Use `exact-batches` for the exact verdicts on it, and `batch_end` for what it is after
+-- verdicts by the rule, as the exact ones are (`by_rule_all`).
+use Rattle.std.proofs.Common.{◌≡◌, ℕ, ◌+◌, Bool, true, false, ◌||◌, not, List, [], ◌∷◌, ◌++◌, length, refl, sym, ap, ◌∙◌, subst, arith, length-append, zero-add, inl, inr}
+use Rattle.std.specs.Prelude.{Option, Some, None}
 use Rattle.rvd_fact.specs.declared.cells.Change.{Change}
 use Rattle.rvd_fact.specs.Program.{Program, applied_all}
 use Rattle.rvd_program.proofs.Applying.{applied_all-append}
@@ -12,7 +12,7 @@ use Rattle.rvd_ask.specs.Promise.{Proposed}
 use Rattle.rvd_ask.specs.Rules.{rule}
 use Rattle.rvd_event.specs.declared.verdicts.Verdict.{Verdict}
 use Rattle.rvd_event.specs.declared.verdicts.Verdict.TheVariants.{Joined, Nothing, Off, Stale, Foreign}
-use Rattle.rvd_queue.specs.Sets.{with, with_all}
+use Rattle.rvd_queue.specs.Sets.{with_all}
 use Rattle.rvd_machine.specs.Enabled.{Enabled, is_on, woken_into}
 use Rattle.rvd_machine.specs.Exact.{AreExactVerdicts, IsVerdictAt, IsVerdictBy, IsVerdictIf, verdict_by}
 use Rattle.rvd_machine.specs.Verdicts.{Batch, judged, judged_all, returned}
@@ -22,7 +22,7 @@ use Rattle.rvd_judge.proofs.Outcomes.{AreExactOn, items_in}
 use Rattle.rvd_judge.proofs.Queues.{returned-list, with_all-append, woken_into-list}
 
 -- ---- the verdicts on a batch
-judged-work : (E : Enabled) (b : Batch) (i : Item) (v : Verdict) → (judged E b i v).work ≡ program_after b.work i v
+pub judged-work : (E : Enabled) (b : Batch) (i : Item) (v : Verdict) → (judged E b i v).work ≡ program_after b.work i v
 judged-work E b i (Joined k) = refl
 judged-work E b i Nothing = refl
 judged-work E b i Off = refl
@@ -73,10 +73,16 @@ gained-gained b items more changes others =
     (omega (arith, length-append changes others))
     (or_assoc b.joined (not (is_none_in changes)) (not (is_none_in others)) ∙ ap (λ x. b.joined || x) (none-append changes others))
 
--- a verdict by the rule
-abbrev IsByRule : Program → Item → Verdict → Type 0
+-- a verdict by the rule: where changes were made, there are some; and verdicts by the rule, each on the program as those
+-- before left it
+abbrev pub IsByRule : Program → Item → Verdict → Type 0
 IsByRule W i (Joined k) = is_none_in (rule W i) ≡ false
 IsByRule W i v = Unit {0}
+
+abbrev pub AreByRule : Program → List Item → List Verdict → Type 0
+AreByRule W [] verdicts = Unit {0}
+AreByRule W (i ∷ items) [] = Unit {0}
+AreByRule W (i ∷ items) (v ∷ verdicts) = IsByRule W i v × AreByRule (program_after W i v) items verdicts
 
 no_changes : (b : Batch) (items : List Item) → (record b { queue = with_all items b.queue }) ≡ gained b items []
 no_changes b items = batch_by b.work (with_all items b.queue) (with_all items b.queue) b.changes (b.changes + 0) b.joined (b.joined || false) refl (omega arith) (or_false b.joined)
@@ -115,25 +121,28 @@ by_rule_if on P W p Off is = tt
 by_rule_if on P W p (Stale ask was now) is = tt
 by_rule_if on P W p (Foreign ask said was) is = tt
 
+pub by_rule_all : (E : Enabled) (P W : Program) (proposals : List Proposed) (verdicts : List Verdict) → AreExactOn E P W proposals verdicts → AreByRule W (items_in proposals) verdicts
+by_rule_all E P W [] verdicts all = tt
+by_rule_all E P W (p ∷ proposals) [] all = tt
+by_rule_all E P W (p ∷ proposals) (v ∷ verdicts) all =
+    (by_rule_if (is_on E p.item.analyzer) P W p v all.0, by_rule_all E P (program_after W p.item v) proposals verdicts all.1)
+
 -- after verdicts a batch has their changes, and their items in its queue
-pub batch_is : (E : Enabled) (P : Program) (b : Batch) (proposals : List Proposed) (verdicts : List Verdict) → AreExactOn E P b.work proposals verdicts
-    → judged_all E b (items_in proposals) verdicts ≡ gained b (queued_by E b.work (items_in proposals) verdicts) (changes_by b.work (items_in proposals) verdicts)
-batch_is E P b [] verdicts all = no_changes b []
-batch_is E P b (p ∷ proposals) [] all = absurd all
-batch_is E P b (p ∷ proposals) (v ∷ verdicts) all =
-    let i = p.item in
-    let items = items_in proposals in
-    let first = judged_is E b i v (by_rule_if (is_on E i.analyzer) P b.work p v all.0) in
-    ap (λ (c : Batch). judged_all E c items verdicts) first
-    ∙ batch_is E P (gained b (items_of E b.work i v) (changes_of b.work i v)) proposals verdicts all.1
+batch_is : (E : Enabled) (b : Batch) (items : List Item) (verdicts : List Verdict) → AreByRule b.work items verdicts
+    → judged_all E b items verdicts ≡ gained b (queued_by E b.work items verdicts) (changes_by b.work items verdicts)
+batch_is E b [] verdicts all = no_changes b []
+batch_is E b (i ∷ items) [] all = no_changes b []
+batch_is E b (i ∷ items) (v ∷ verdicts) all =
+    ap (λ (c : Batch). judged_all E c items verdicts) (judged_is E b i v all.0)
+    ∙ batch_is E (gained b (items_of E b.work i v) (changes_of b.work i v)) items verdicts all.1
     ∙ gained-gained b (items_of E b.work i v) (queued_by E (program_after b.work i v) items verdicts) (changes_of b.work i v) (changes_by (program_after b.work i v) items verdicts)
 
 -- the same over a batch before its first verdict
-pub batch_end : (E : Enabled) (P W T : Program) (queue items : List Item) (proposals : List Proposed) (verdicts : List Verdict) → items_in proposals ≡ items → AreExactOn E P W proposals verdicts → T ≡ applied_all W (changes_by W items verdicts)
+pub batch_end : (E : Enabled) (W T : Program) (queue : List Item) (items : List Item) (verdicts : List Verdict) → AreByRule W items verdicts → T ≡ applied_all W (changes_by W items verdicts)
     → judged_all E (batch_on W queue) items verdicts ≡ (let h : Batch = record { work = T; queue = with_all (queued_by E W items verdicts) queue; changes = length (changes_by W items verdicts); joined = not (is_none_in (changes_by W items verdicts)) } in h)
-batch_end E P W T queue items proposals verdicts same exact work =
+batch_end E W T queue items verdicts by_rule work =
     let changes = changes_by W items verdicts in
     let queued = with_all (queued_by E W items verdicts) queue in
-    subst (λ (is : List Item). judged_all E (batch_on W queue) is verdicts ≡ gained (batch_on W queue) (queued_by E W is verdicts) (changes_by W is verdicts)) same (batch_is E P (batch_on W queue) proposals verdicts exact)
+    batch_is E (batch_on W queue) items verdicts by_rule
     ∙ batch_by (applied_all W changes) queued queued (0 + length changes) (length changes) (not (is_none_in changes)) (not (is_none_in changes)) refl (zero-add (length changes)) refl
     ∙ ap (λ (S : Program). let h : Batch = record { work = S; queue = queued; changes = length changes; joined = not (is_none_in changes) } in h) (sym work)

@@ -5,3 +5,5 @@ pub mod Outcomes
 pub mod BatchLemmas
 pub mod Misfits
 pub mod Legal
+pub mod Checked
+pub mod Truths

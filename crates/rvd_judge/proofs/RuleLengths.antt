@@ -1,5 +1,5 @@
 -- How many changes a rule has. Use `few_changes`: at most 256, so that their number fits a verdict.
-use Rattle.std.proofs.Common.{◌≡◌, ℕ, zero, suc, ◌+◌, ◌≤◌, List, [], ◌∷◌, ◌++◌, length, Option, Some, None, cond, arith, length-append}
+use Rattle.std.proofs.Common.{ℕ, zero, suc, ◌≤◌, List, [], ◌∷◌, length, Option, Some, None, cond, arith, length-append}
 use Rattle.std.specs.Prelude.{filter_map, find, is_none, is_some, ◌&&◌}
 use Rattle.std.specs.List.{cons_option}
 use Rattle.std.proofs.lemmas.Bool.{cond_both}

@@ -1,3 +1,4 @@
 pub mod Effects
 pub mod Batches
 pub mod Differing
+pub mod Checks

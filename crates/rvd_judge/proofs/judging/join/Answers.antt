@@ -1,12 +1,10 @@
-use Rattle.std.proofs.Common.{◌≡◌, ◌<◌, List, [], ◌∷◌, length, refl, sym, ap, ◌∙◌, subst, arith}
+use Rattle.std.proofs.Common.{◌≡◌, List, [], ◌∷◌, length, refl, sym, ap, ◌∙◌, subst, arith}
 use Rattle.std.specs.Prelude.{◌==◌, true}
 use Rattle.std.proofs.lemmas.Bool.{eqb-true}
 use Rattle.rvd_fact.specs.declared.cells.Change.{Change}
 use Rattle.rvd_fact.specs.Valid.{Fits}
-use Rattle.rvd_event.specs.declared.verdicts.Verdict.{Verdict}
 use Rattle.rvd_event.specs.declared.verdicts.Verdict.TheVariants.{Nothing}
 use Rattle.rvd_machine.specs.Exact.{verdict_by}
-use Rattle.rvd_ask.specs.Rules.{rule}
 use Rattle.rvd_judge.proofs.RuleLengths.{few_changes}
 use Rattle.rvd_judge.proofs.judging.join.Goals as goal
 

@@ -4,7 +4,7 @@ use Rattle.std.proofs.lemmas.Result.{IfOk-weaker}
 use Rattle.rvd_ask.specs.declared.asks.Item.{Item}
 use Rattle.rvd_machine.specs.Verdicts.{AreVerdicts}
 use Rattle.rvd_judge.specs.Batches.{batch_on, enabled_in}
-use Rattle.rvd_judge.proofs.BatchLemmas.{batch_end, exact-batches}
+use Rattle.rvd_judge.proofs.BatchLemmas.{AreByRule, batch_end, by_rule_all, exact-batches}
 use Rattle.rvd_judge.proofs.Legal.{fit_all, legal}
 use Rattle.rvd_judge.proofs.Outcomes.{made, next_of, none_left, reached-again, reached-exact, reached-kept, reached-work, reaches-next}
 use Rattle.rvd_judge.proofs.judging.judge.Goals as goal
@@ -72,4 +72,5 @@ returns-clause-batch c =
     let none = none_left c.args.items.now c.args.proposals.now c.loop-place.place c.requires c.loop-place-test.false in
     let exact = reached-exact E c.args.job.now _ _ c.args.proposals.now c.loop-place.place verdicts none c.loop-place.invariant in
     let work = reached-work E c.args.job.now c.args.work.now c.loop-place.work c.args.again.now.items c.loop-place.again.items c.args.changes.now.items c.loop-place.changes.items c.args.items.now c.args.proposals.now c.loop-place.place verdicts c.requires none c.loop-place.invariant in
-    if_ok_at c.of.result verdicts _ (λ (queue : List Item). batch_end E c.args.job.now c.args.work.now c.loop-place.work queue c.args.items.now c.args.proposals.now verdicts c.requires exact work) c.of.ensures
+    let by_rule : AreByRule c.args.work.now c.args.items.now verdicts = subst (λ (items : List Item). AreByRule c.args.work.now items verdicts) c.requires (by_rule_all E c.args.job.now c.args.work.now c.args.proposals.now verdicts exact) in
+    if_ok_at c.of.result verdicts _ (λ (queue : List Item). batch_end E c.args.work.now c.loop-place.work queue c.args.items.now verdicts by_rule work) c.of.ensures

@@ -1,4 +1,4 @@
-use Rattle.std.proofs.Common.{◌≡◌, sym, ap, ◌∙◌, subst}
+use Rattle.std.proofs.Common.{sym, ap, ◌∙◌, subst}
 use Rattle.rvd_fact.specs.Valid.{Fits}
 use Rattle.rvd_ask.specs.declared.asks.Item.{Item}
 use Rattle.rvd_ask.specs.Rules.{rule}

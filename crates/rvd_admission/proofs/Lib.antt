@@ -1,0 +1,2 @@
+mod Outlooks
+mod SessionReplies
