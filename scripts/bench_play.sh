@@ -28,8 +28,12 @@ def timed(name, text, wanted):
         took = time.perf_counter() - start
         assert done.returncode == 0, done.returncode
         best = took if best is None else min(best, took)
-    head = done.stdout.split(b"\n")[:4]
-    assert head[0] == b"history 3" and head[1] == f'1 commit s1 "comments" {wanted}'.encode(), head
+    # Behind the journal, which has an entry for each line, and no answers the history begins.
+    lines = done.stdout.split(b"\n")
+    entries = text.count("\n") - 1
+    head = lines[entries + 1:entries + 5]
+    assert head[:3] == [f"end {entries}".encode(), b"answers 0", b"history 3"], head
+    assert head[3] == f'1 commit s1 "comments" {wanted}'.encode(), head
     return best, len(text)
 
 last = None
