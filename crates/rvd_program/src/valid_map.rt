@@ -57,7 +57,8 @@ impl Program {
         }
     }
 
-    /// An equal program. Only want of memory refuses it.
+    /// An equal program, at once: the two share their cells until one of them changes, which then copies them. Only want of
+    /// memory refuses it.
     pub fn copy(&self) -> Result<Program, AllocError>
         ensures { IfOk result (λ copy. copy ≡ self.now) }
     {

@@ -8,11 +8,13 @@
 //! The map is a vector of pairs in the order of their keys. Looking up takes a number of comparisons that grows as the
 //! logarithm of the number of keys. A key above the last one is appended, so that a map is built from keys that come in
 //! order in a time that grows as their number. Any other new key, and a key that is taken away, moves the pairs behind it.
+//! A copy shares the vector with its original, and the first of them that changes copies it.
 //!
 //! The definitions that the contracts cite stand in `specs/`: `Table` says what a map answers, and `Places` what stands
 //! at a place of the vector.
 #![tactic(auto)]
 
+mod entries;
 mod laws;
 mod place;
 mod plain;

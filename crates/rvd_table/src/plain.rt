@@ -3,27 +3,30 @@ ghost use Rattle.std.specs.Option.{option_map, option_copied};
 ghost use Rattle.std.specs.FinMap.{find, put, is_sorted};
 ghost use Rattle.rvd_table.specs.Table.{next_entry, last_entry, entries_from, without};
 
+use crate::entries::{copy_entries, set_entry, unset_entry};
 use crate::place::{count_up_to, next_place, place_of};
 use crate::value::Copied;
 use std::alloc::{AllocError, Global};
 use std::marker::Model;
-use std::mem;
+use std::sync::Arc;
 
 /// A finite map with its keys in order. Contracts see it as the list of its entries, key and value, in the order of the keys.
 #[derive(Drop)]
 pub struct Table<K: Ord + Copy, V: Copied> {
-    entries: Vec<(K, V)>,
+    // Copies share the entries until one of them changes.
+    entries: Arc<Vec<(K, V)>, Global>,
 }
 
 impl<K: Ord + Copy, V: Copied> Model for Table<K, V> {
     ghost use Rattle.std.specs.Prelude.{List, T};
+    ghost use Rattle.std.specs.Arc.{arc_value};
     ghost use Rattle.std.specs.FinMap.{is_sorted};
 
     ghost Value = { List (K × V) };
 
-    ghost view = { λ t. t.entries.items };
+    ghost view = { λ t. (arc_value t.entries).items };
 
-    ghost invariant = { λ t. T (is_sorted K.cmp t.entries.items) };
+    ghost invariant = { λ t. T (is_sorted K.cmp (arc_value t.entries).items) };
 }
 
 impl<K: Ord + Copy, V: Copied> Table<K, V> {
@@ -31,7 +34,7 @@ impl<K: Ord + Copy, V: Copied> Table<K, V> {
     pub fn new(alloc: Global) -> Result<Table<K, V>, AllocError>
         ensures { IfOk result (λ t. t ≡ []) }
     {
-        let entries = Vec::new(alloc);
+        let entries = Arc::new(alloc, Vec::new(alloc))?;
         Ok(Table { entries })
     }
 
@@ -77,16 +80,10 @@ impl<K: Ord + Copy, V: Copied> Table<K, V> {
         ensures before { IfOk result (λ v. v ≡ find K.cmp key self.old) }
         ensures err { OnErr result (self.new ≡ self.old) }
     {
-        match place_of(&self.entries, &key) {
-            Ok(at) => {
-                let entry = &mut self.entries[at];
-                let before = mem::replace(&mut entry.1, value);
-                Ok(Some(before))
-            }
-            Err(at) => {
-                self.entries.insert(at, (key, value))?;
-                Ok(None)
-            }
+        self.own()?;
+        match Arc::get_mut(&mut self.entries) {
+            Some(entries) => set_entry(entries, key, value),
+            None => Err(AllocError),
         }
     }
 
@@ -96,25 +93,30 @@ impl<K: Ord + Copy, V: Copied> Table<K, V> {
         ensures before { IfOk result (λ v. v ≡ find K.cmp key.now self.old) }
         ensures err { OnErr result (self.new ≡ self.old) }
     {
-        match place_of(&self.entries, key) {
-            Ok(at) => {
-                let (_, before) = self.entries.remove(at);
-                Ok(Some(before))
-            }
-            Err(_) => Ok(None),
+        self.own()?;
+        match Arc::get_mut(&mut self.entries) {
+            Some(entries) => unset_entry(entries, key),
+            None => Err(AllocError),
         }
     }
 
-    /// An equal map. Only want of memory refuses it.
+    // Makes the entries this map's alone, by a copy where another map shares them.
+    fn own(&mut self) -> Result<(), AllocError>
+        ensures { self.new ≡ self.old }
+    {
+        if Arc::strong_count(&self.entries) > 1 {
+            let entries = copy_entries(&self.entries)?;
+            self.entries = Arc::new(*entries.allocator(), entries)?;
+        }
+        Ok(())
+    }
+
+    /// An equal map, at once: the two share their entries until one of them changes, which then copies them. Only want of
+    /// memory refuses it.
     pub fn copy(&self) -> Result<Table<K, V>, AllocError>
         ensures { IfOk result (λ t. t ≡ self.now) }
     {
-        let own: &[(K, V)] = &self.entries;
-        let mut entries = Vec::with_capacity(*self.entries.allocator(), own.len())?;
-        for entry in own {
-            let value = entry.1.copied()?;
-            entries.push((entry.0, value))?;
-        }
+        let entries = Arc::try_clone(&self.entries)?;
         Ok(Table { entries })
     }
 

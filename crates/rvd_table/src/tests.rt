@@ -16,6 +16,18 @@ fn a_key_set_twice_answers_with_what_was_there(rt: HostRuntime) -> Result<(), Fa
 }
 
 #[test]
+fn a_copy_keeps_what_it_was(rt: HostRuntime) -> Result<(), Fail> {
+    let mut table = Table::new(rt.alloc())?;
+    table.set(3u64, 1u64)?;
+    let copy = table.copy()?;
+    table.set(3, 2)?;
+    table.set(4, 5)?;
+    assert_eq!(rt; copy.entries(), [(3, 1)].as_slice());
+    assert_eq!(rt; table.entries(), [(3, 2), (4, 5)].as_slice());
+    Ok(())
+}
+
+#[test]
 fn neighbours_are_the_nearest_keys(rt: HostRuntime) -> Result<(), Fail> {
     let mut table = Table::new(rt.alloc())?;
     for key in [20u64, 10, 30, 25] {
