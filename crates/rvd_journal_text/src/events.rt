@@ -5,7 +5,8 @@ ghost use Rattle.rvd_notation.specs.Pieces.{Keeps};
 ghost use Rattle.rvd_journal_text.specs.Events.{enable_word, end_word, event_text};
 
 use crate::edits::push_edit;
-use crate::words::push_count;
+use crate::event_forms;
+use crate::forms::push_forms;
 use rvd_ask::Analyzer;
 use rvd_event::Event;
 use rvd_fact::Text;
@@ -47,19 +48,11 @@ pub fn push_event(out: &mut Vec<u8>, event: &Event) -> Result<(), AllocError>
     ensures ok { OnOk result (out.new.items ≡ out.old.items ++ event_text event.now) }
     ensures err { OnErr result (Keeps out.old.items out.new.items) }
 {
-    match event {
+    event_forms!(push_forms {
+        out, event: Event,
         Event::Begin(text) => push_begin(out, text),
         Event::Edit(edit) => push_edit(out, edit),
         Event::End(commit) => out.extend_from_slice(end_word(*commit)),
-        Event::Undo => out.extend_from_slice(b"undo"),
-        Event::Redo => out.extend_from_slice(b"redo"),
-        Event::Full => out.extend_from_slice(b"full"),
-        Event::Cancel => out.extend_from_slice(b"cancel"),
         Event::Enable(analyzer, on) => push_enable(out, *analyzer, *on),
-        Event::Read => out.extend_from_slice(b"read"),
-        Event::Wait => out.extend_from_slice(b"wait"),
-        Event::Close => out.extend_from_slice(b"close"),
-        Event::Take(items) => push_count(out, b"take ", u64::from(*items)),
-        Event::Offer(ticket) => push_count(out, b"offer ", *ticket),
-    }
+    })
 }

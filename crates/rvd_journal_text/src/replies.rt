@@ -3,6 +3,8 @@ ghost use Rattle.std.specs.Fmt.{decimal};
 ghost use Rattle.rvd_notation.specs.Pieces.{Keeps};
 ghost use Rattle.rvd_journal_text.specs.Replies.{edit_refusal_text, item_text, item_words, refusal_text, reply_text};
 
+use crate::forms::push_forms;
+use crate::reply_forms;
 use crate::verdicts::push_verdicts;
 use crate::words::{push_at, push_count, push_key_of};
 use rvd_ask::Item;
@@ -90,19 +92,10 @@ pub fn push_reply(out: &mut Vec<u8>, reply: &Reply) -> Result<(), AllocError>
     ensures ok { OnOk result (out.new.items ≡ out.old.items ++ reply_text reply.now) }
     ensures err { OnErr result (Keeps out.old.items out.new.items) }
 {
-    match reply {
-        Reply::Entry(number) => push_count(out, b"entry ", *number),
-        Reply::Changed(changes) => push_count(out, b"changed ", u64::from(*changes)),
-        Reply::Waiting(live) => push_count(out, b"waiting ", u64::from(*live)),
-        Reply::Committed(step) => push_count(out, b"committed ", *step),
-        Reply::RolledBack => out.extend_from_slice(b"rolled back"),
-        Reply::StepNo(step) => push_count(out, b"step ", *step),
-        Reply::At(steps) => push_count(out, b"at ", *steps),
-        Reply::SettledAt(step) => push_count(out, b"settled ", *step),
-        Reply::Voided => out.extend_from_slice(b"voided"),
-        Reply::Closed(aborted) => push_count(out, b"closed ", u64::from(*aborted)),
+    reply_forms!(push_forms {
+        out, reply: Reply,
         Reply::Job(ticket, items) => push_job(out, *ticket, items.list()),
         Reply::Verdicts(verdicts) => push_verdicts(out, verdicts.list()),
         Reply::Refused(refusal) => push_refused(out, *refusal),
-    }
+    })
 }

@@ -1,5 +1,5 @@
 -- What is left of an entry without the bytes of blocks has the same text and is in range too. Use `bare_entry-line` and
--- `bare_entry-range`.
+-- `bare_entry-range`, and `has-form` for one answer.
 use Rattle.std.proofs.Common.{◌≡◌, ℕ, Bool, ◌&&◌, List, [], ◌∷◌, ◌++◌, map, Some, None, codes, refl, ap, ◌∙◌}
 use Rattle.std.specs.List.{AllByRecursion, list_all}
 use Rattle.std.specs.Fmt.{decimal}
@@ -106,7 +106,7 @@ reply-fits (Verdicts vs) fits = verdicts-fit vs fits
 reply-fits r fits = fits
 
 -- of its ask's form
-has-form : (q : Ask) (a : Answer) → has_form q (bare_answer a) ≡ has_form q a
+pub has-form : (q : Ask) (a : Answer) → has_form q (bare_answer a) ≡ has_form q a
 has-form (ask.Cell k) (answer.Cell (Some c)) = refl
 has-form q (answer.Cell (Some c)) = refl
 has-form q (answer.Cell None) = refl

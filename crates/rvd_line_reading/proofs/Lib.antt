@@ -7,3 +7,4 @@ pub mod EditsBack
 pub mod EventsBack
 pub mod BareTexts
 pub mod LinesBack
+pub mod FrontsBack

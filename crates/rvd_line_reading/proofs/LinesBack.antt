@@ -1,11 +1,13 @@
--- Whole lines are read back. Use `line_law`, and `unread`, `out_of_range` and `spelled_otherwise` where no entry has a line.
-use Rattle.std.proofs.Common.{◌≡◌, ℕ, ◌+◌, ◌^◌, ◌<◌, ◌≤◌, true, List, [], ◌++◌, Option, Some, None, codes, refl, sym, ap, subst, ◌∙◌, arith, append-nil}
+-- Lines are read back, behind which nothing or a line feed stands. Use `line_law` for a whole line, `entry-back` for one at the
+-- front of a text, and `unread`, `out_of_range` and `spelled_otherwise` where no entry has a line.
+use Rattle.std.proofs.Common.{◌≡◌, ℕ, ◌+◌, ◌^◌, ◌<◌, ◌≤◌, true, false, List, [], ◌∷◌, ◌++◌, Option, Some, None, codes, refl, sym, ap, subst, ◌∙◌, arith, append-nil}
 use Rattle.std.specs.Fmt.{decimal}
 use Rattle.std.proofs.lemmas.Bool.Decides.{nat_tests}
 use Rattle.rvd_event.specs.declared.queries.Names.{Names}
 use Rattle.rvd_journal.specs.declared.entries.Entry.{Entry}
 use Rattle.rvd_notation.specs.Actors.{actor_text}
 use Rattle.rvd_reading.specs.Steps.{◌>>=◌, Step}
+use Rattle.rvd_reading.specs.Numbers.{begins_with_digit}
 use Rattle.rvd_reading.proofs.ActorsBack.{actor-back}
 use Rattle.rvd_reading.proofs.NumbersBack.{number-back}
 use Rattle.rvd_journal_text.specs.Events.{event_text}
@@ -17,17 +19,26 @@ use Rattle.rvd_line_reading.specs.Laws.{LineLaw}
 use Rattle.rvd_line_reading.proofs.BareTexts.{bare_entry-line, bare_entry-range}
 use Rattle.rvd_line_reading.proofs.EventsBack.{event_law}
 use Rattle.rvd_line_reading.proofs.RepliesBack.{reply_law}
-use Rattle.rvd_line_reading.proofs.Flats.{flat3, flat5}
+use Rattle.rvd_line_reading.proofs.Flats.{flat4, flat5}
 
-settled-back : (settled : Option ℕ) → FitsSettled settled → settled_of (settled_text settled) ≡ Some (settled, [])
-settled-back None fits = refl
-settled-back (Some step) fits =
-    ap (λ (t : List ℕ). settled_of (codes "; settled " ++ t)) (sym (append-nil (decimal step)))
-    ∙ (rw (number-back 18446744073709551615 step [] (omega (arith, fits)) fits refl) refl)
+-- nothing is left of a line, or its line feed comes first
+abbrev pub EndsLine : List ℕ → Type 0
+EndsLine [] = Unit {0}
+EndsLine (c ∷ cs) = c ≡ 10
 
-settled-ends : (settled : Option ℕ) → has_ended (settled_text settled) ≡ true
-settled-ends None = refl
-settled-ends (Some step) = refl
+no_digit : (rest : List ℕ) → EndsLine rest → begins_with_digit rest ≡ false
+no_digit [] end = refl
+no_digit (c ∷ cs) end = subst (λ x. begins_with_digit (x ∷ cs) ≡ false) (sym end) refl
+
+settled-back : (settled : Option ℕ) (rest : List ℕ) → FitsSettled settled → EndsLine rest → settled_of (settled_text settled ++ rest) ≡ Some (settled, rest)
+settled-back None [] fits end = refl
+settled-back None (c ∷ cs) fits end = subst (λ x. settled_of (x ∷ cs) ≡ Some (None, x ∷ cs)) (sym end) refl
+settled-back (Some step) rest fits end = rw (number-back 18446744073709551615 step rest (omega (arith, fits)) fits (no_digit rest end)) refl
+
+settled-ends : (settled : Option ℕ) (rest : List ℕ) → EndsLine rest → has_ended (settled_text settled ++ rest) ≡ true
+settled-ends None [] end = refl
+settled-ends None (c ∷ cs) end = subst (λ x. has_ended (x ∷ cs) ≡ true) (sym end) refl
+settled-ends (Some step) rest end = refl
 
 -- the number of a session or a worker
 above : (names : Names) (actor : ℕ) → is_actor names actor ≡ true → 0 < actor
@@ -36,29 +47,31 @@ above names actor h = grind (arith, nat_tests)
 most : (names : Names) (actor : ℕ) → is_actor names actor ≡ true → actor ≤ names.sessions + names.workers
 most names actor h = grind (arith, nat_tests)
 
-call-back : (names : Names) (e : Entry) → IsInRange names e → call_of names (call_text names e ++ settled_text e.settled) ≡ Some (bare_entry e, [])
+call-back : (names : Names) (e : Entry) (rest : List ℕ) → IsInRange names e → EndsLine rest → call_of names (call_text names e ++ (settled_text e.settled ++ rest)) ≡ Some (bare_entry e, rest)
 unfolding call_of call_text
-call-back names e range =
-    let end = settled_text e.settled in
+call-back names e rest range ends =
+    let end = settled_text e.settled ++ rest in
     let reply = reply_text e.reply ++ end in
     let sign = codes " = " ++ reply in
     let one = actor-back names e.actor (codes " " ++ (event_text e.event ++ sign)) (above names e.actor range.known) (most names e.actor range.known) range.actor refl in
     let two = event_law.event e.event reply range.event in
-    let three = reply_law.reply e.reply end range.reply range.forms (settled-ends e.settled) in
-    let four = settled-back e.settled range.settled in
+    let three = reply_law.reply e.reply end range.reply range.forms (settled-ends e.settled rest ends) in
+    let four = settled-back e.settled rest range.settled ends in
     ap (call_of names) (flat5 (actor_text names e.actor) (codes " ") (event_text e.event) (codes " = ") (reply_text e.reply) end) ∙ (rw (one, two, three, four) refl)
 
-entry-back : (names : Names) (number : ℕ) (e : Entry) → number < 2 ^ 64 → IsInRange names e → entry_of names (entry_line names number e) ≡ Some ((number, bare_entry e), [])
+pub entry-back : (names : Names) (number : ℕ) (e : Entry) (rest : List ℕ) → number < 2 ^ 64 → IsInRange names e → EndsLine rest → entry_of names (entry_line names number e ++ rest) ≡ Some ((number, bare_entry e), rest)
 unfolding entry_of entry_line
-entry-back names number e small range =
-    let call = call_text names e ++ settled_text e.settled in
+entry-back names number e rest small range ends =
+    let call = call_text names e ++ (settled_text e.settled ++ rest) in
     let one = number-back 18446744073709551615 number (codes " " ++ call) (omega (arith, small)) small refl in
-    let two = call-back names e range in
-    ap (entry_of names) (flat3 (decimal number) (codes " ") (call_text names e) (settled_text e.settled)) ∙ (rw (one, two) refl)
+    let two = call-back names e rest range ends in
+    ap (entry_of names) (flat4 (decimal number) (codes " ") (call_text names e) (settled_text e.settled) rest) ∙ (rw (one, two) refl)
 
 line-back : (names : Names) (number : ℕ) (e : Entry) → number < 2 ^ 64 → IsInRange names e → line_of names (entry_line names number e) ≡ Some (number, bare_entry e)
 unfolding line_of
-line-back names number e small range = ap (λ (o : Step (ℕ × Entry)). o >>= (λ r. nothing_behind r.0 r.1)) (entry-back names number e small range)
+line-back names number e small range =
+    ap (line_of names) (sym (append-nil (entry_line names number e)))
+    ∙ ap (λ (o : Step (ℕ × Entry)). o >>= (λ r. nothing_behind r.0 r.1)) (entry-back names number e [] small range tt)
 
 pub line_law : LineLaw
 line_law = record { line = line-back; bare = bare_entry-line }

@@ -1,9 +1,8 @@
--- Replies are read back, behind which nothing or a semicolon stands. Use `reply_law`.
-use Rattle.std.proofs.Common.{◌≡◌, ℕ, zero, suc, ◌^◌, ◌<◌, ◌≤◌, Bool, true, false, cond, List, [], ◌∷◌, ◌++◌, map, length, drop, Some, codes, refl, sym, ap, subst, ◌∙◌, arith, append_assoc, length-append}
+-- Replies are read back, behind which nothing, a semicolon or a line feed stands. Use `reply_law`.
+use Rattle.std.proofs.Common.{◌≡◌, ℕ, zero, suc, ◌^◌, ◌<◌, ◌≤◌, Bool, true, false, cond, List, [], ◌∷◌, ◌++◌, map, length, drop, Some, codes, refl, ap, ◌∙◌, arith, append_assoc, length-append}
 use Rattle.std.specs.Prelude.{nat_eq}
 use Rattle.std.specs.List.{AllByRecursion, list_all, starts_with}
 use Rattle.std.specs.Fmt.{decimal}
-use Rattle.std.proofs.lemmas.Bool.{eqb-true}
 use Rattle.rvd_text.specs.Hex.{hex8}
 use Rattle.rvd_ask.specs.declared.asks.Item.{Item}
 use Rattle.rvd_event.specs.declared.verdicts.Verdict.{Verdict}
@@ -26,7 +25,7 @@ use Rattle.rvd_journal_reading.proofs.RefusalsBack.{refusal_law}
 use Rattle.rvd_journal_reading.proofs.VerdictsBack.{verdict_law}
 use Rattle.rvd_line_reading.specs.Replies.{FitsItem, FitsReply, are_formed, bare_reply, has_ended, item_of, items_of, more_verdicts_of, reply_of, some_verdicts_of}
 use Rattle.rvd_line_reading.specs.Laws.{ReplyLaw}
-use Rattle.rvd_line_reading.proofs.Ended.{no_comma, no_digit, no_space}
+use Rattle.rvd_line_reading.proofs.Ended.{closing, no_comma, no_digit, no_space}
 use Rattle.rvd_line_reading.proofs.Flats.{flat3}
 
 item-back : (item : Item) (rest : List ℕ) → FitsItem item → item_of (item_text item ++ rest) ≡ Some (item, rest)
@@ -109,7 +108,7 @@ judged (Foreign q a b) bytes = refl
 no_verdicts : (rest : List ℕ) → has_ended rest ≡ true → reply_of rest ≡ Some (Verdicts [], rest)
 unfolding reply_of
 no_verdicts [] end = refl
-no_verdicts (c ∷ cs) end = subst (λ x. reply_of (x ∷ cs) ≡ Some (Verdicts [], x ∷ cs)) (sym (eqb-true c 59 end)) refl
+no_verdicts (c ∷ cs) end = closing (λ x. reply_of (x ∷ cs) ≡ Some (Verdicts [], x ∷ cs)) refl refl c end
 
 some_verdicts-back : (v : Verdict) (vs : List Verdict) (rest : List ℕ) → list_all has_forms (v ∷ vs) ≡ true → AllByRecursion FitsVerdict (v ∷ vs) → has_ended rest ≡ true
     → reply_of (reply_text (Verdicts (v ∷ vs)) ++ rest) ≡ Some (Verdicts (map bare_verdict (v ∷ vs)), rest)

@@ -2,4 +2,5 @@ pub mod Replies
 pub mod Edits
 pub mod Events
 pub mod Lines
+pub mod Front
 pub mod Laws

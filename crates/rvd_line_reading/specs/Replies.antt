@@ -1,5 +1,5 @@
 -- A reply at the front of a text: `reply_of`, and what it takes for the parts of one to be in their ranges: `FitsReply`.
-use Rattle.std.specs.Prelude.{ℕ, ◌^◌, ◌<◌, Bool, true, ◌==◌, List, [], ◌∷◌, length, map, Some, if◌then◌else◌, codes}
+use Rattle.std.specs.Prelude.{ℕ, ◌^◌, ◌<◌, Bool, true, ◌==◌, ◌||◌, List, [], ◌∷◌, length, map, Some, if◌then◌else◌, codes}
 use Rattle.std.specs.List.{AllByRecursion, list_all}
 use Rattle.rvd_ask.specs.declared.asks.Item.{Item}
 use Rattle.rvd_event.specs.declared.verdicts.Verdict.{Verdict}
@@ -35,10 +35,10 @@ more_verdicts_of bytes = list_of (length bytes) (codes " ") verdict_of bytes
 abbrev pub some_verdicts_of : List ℕ → Step (List Verdict)
 some_verdicts_of bytes = verdict_of bytes >>= (λ v. more_verdicts_of v.1 >>= (λ vs. Some (v.0 ∷ vs.0, vs.1)))
 
--- whether a reply has ended: nothing is left, or a semicolon comes first
+-- whether a reply has ended: nothing is left, or a semicolon or a line feed comes first
 abbrev pub has_ended : List ℕ → Bool
 has_ended [] = true
-has_ended (c ∷ cs) = c == 59
+has_ended (c ∷ cs) = c == 59 || c == 10
 
 -- verdicts with a space between two of them, of which there may be none
 abbrev pub verdicts_of : List ℕ → Step (List Verdict)

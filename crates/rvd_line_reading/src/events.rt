@@ -3,42 +3,40 @@ ghost use Rattle.rvd_line_reading.specs.Events.{event_of};
 
 use crate::edits::edit;
 use rvd_event::Event;
+use rvd_journal_text::event_forms;
 use rvd_reading::{ReadError, Rest, analyzer, number, quoted};
 use std::alloc::Global;
+
+/// Reads one of the listed forms, where its word comes first, and returns it.
+macro_rules! read_forms {
+    (
+        { $rest:ident: $type:ident }
+        $($variant:ident $(($part:ident: $number:ident))? $word:literal,)*
+    ) => {
+        $(if $rest.strip($word) {
+            return Ok($type::$variant $((number($rest, u64::from($number::MAX))? as $number))?);
+        })*
+    };
+}
+
+pub(crate) use read_forms;
 
 /// An event.
 #[tactic(auto, unfolding(crate::specs::Events::event_of))]
 pub fn event(alloc: Global, rest: &mut Rest) -> Result<Event, ReadError>
     ensures { Reads rest.new result (event_of rest.old) }
 {
+    event_forms!(read_forms { rest: Event });
     if rest.strip(b"begin ") {
         Ok(Event::Begin(quoted(alloc, rest)?))
     } else if rest.strip(b"commit") {
         Ok(Event::End(true))
     } else if rest.strip(b"abort") {
         Ok(Event::End(false))
-    } else if rest.strip(b"undo") {
-        Ok(Event::Undo)
-    } else if rest.strip(b"redo") {
-        Ok(Event::Redo)
-    } else if rest.strip(b"full") {
-        Ok(Event::Full)
-    } else if rest.strip(b"cancel") {
-        Ok(Event::Cancel)
     } else if rest.strip(b"enable ") {
         Ok(Event::Enable(analyzer(rest)?, true))
     } else if rest.strip(b"disable ") {
         Ok(Event::Enable(analyzer(rest)?, false))
-    } else if rest.strip(b"read") {
-        Ok(Event::Read)
-    } else if rest.strip(b"wait") {
-        Ok(Event::Wait)
-    } else if rest.strip(b"close") {
-        Ok(Event::Close)
-    } else if rest.strip(b"take ") {
-        Ok(Event::Take(number(rest, 4_294_967_295)? as u32))
-    } else if rest.strip(b"offer ") {
-        Ok(Event::Offer(number(rest, u64::MAX)?))
     } else {
         Ok(Event::Edit(edit(alloc, rest)?))
     }

@@ -54,7 +54,7 @@ fn call(alloc: Global, rest: &mut Rest, names: Names) -> Result<Entry, ReadError
 
 /// An entry with its number.
 #[tactic(auto, unfolding(crate::specs::Lines::entry_of))]
-fn numbered(alloc: Global, rest: &mut Rest, names: Names) -> Result<(u64, Entry), ReadError>
+pub fn numbered(alloc: Global, rest: &mut Rest, names: Names) -> Result<(u64, Entry), ReadError>
     ensures { Reads rest.new result (entry_of names rest.old) }
 {
     let number = number(rest, u64::MAX)?;

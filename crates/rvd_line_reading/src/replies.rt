@@ -3,13 +3,13 @@ ghost use Rattle.rvd_reading.specs.Steps.{Reads, with_rest};
 ghost use Rattle.rvd_reading.specs.Lists.{Appends};
 ghost use Rattle.rvd_line_reading.specs.Replies.{has_ended, item_of, items_of, job_of, judged_of, more_verdicts_of, reply_of, some_verdicts_of, verdicts_of};
 
+use crate::events::read_forms;
 use rvd_ask::{Item, Items};
 use rvd_event::{Reply, Verdict, VerdictList};
 use rvd_journal_reading::{refusal, verdict};
+use rvd_journal_text::reply_forms;
 use rvd_reading::{ReadError, Rest, Unread, analyzer, hex8, number};
 use std::alloc::Global;
-
-const MAX_WORD: u64 = 4_294_967_295;
 
 /// An item: its analyzer and its address.
 #[tactic(auto, unfolding(crate::specs::Replies::item_of))]
@@ -72,13 +72,13 @@ fn push_more_verdicts(
     Ok(())
 }
 
-/// Whether a reply has ended: nothing is left, or a semicolon comes first.
+/// Whether a reply has ended: nothing is left, or a semicolon or a line feed comes first.
 fn has_ended(bytes: &[u8]) -> bool
     ensures { result ≡ has_ended bytes.now }
 {
     match bytes {
         [] => true,
-        [first, ..] => *first == b';',
+        [first, ..] => *first == b';' || *first == b'\n',
     }
 }
 
@@ -106,27 +106,8 @@ fn judged(alloc: Global, rest: &mut Rest) -> Result<Reply, ReadError>
 pub fn reply(alloc: Global, rest: &mut Rest) -> Result<Reply, ReadError>
     ensures { Reads rest.new result (reply_of rest.old) }
 {
-    if rest.strip(b"entry ") {
-        Ok(Reply::Entry(number(rest, u64::MAX)?))
-    } else if rest.strip(b"changed ") {
-        Ok(Reply::Changed(number(rest, MAX_WORD)? as u32))
-    } else if rest.strip(b"waiting ") {
-        Ok(Reply::Waiting(number(rest, MAX_WORD)? as u32))
-    } else if rest.strip(b"committed ") {
-        Ok(Reply::Committed(number(rest, u64::MAX)?))
-    } else if rest.strip(b"rolled back") {
-        Ok(Reply::RolledBack)
-    } else if rest.strip(b"step ") {
-        Ok(Reply::StepNo(number(rest, u64::MAX)?))
-    } else if rest.strip(b"at ") {
-        Ok(Reply::At(number(rest, u64::MAX)?))
-    } else if rest.strip(b"settled ") {
-        Ok(Reply::SettledAt(number(rest, u64::MAX)?))
-    } else if rest.strip(b"voided") {
-        Ok(Reply::Voided)
-    } else if rest.strip(b"closed ") {
-        Ok(Reply::Closed(number(rest, MAX_WORD)? as u32))
-    } else if rest.strip(b"job ") {
+    reply_forms!(read_forms { rest: Reply });
+    if rest.strip(b"job ") {
         job(alloc, rest)
     } else if rest.strip(b"refused ") {
         Ok(Reply::Refused(refusal(rest)?))

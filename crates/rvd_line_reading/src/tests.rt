@@ -1,6 +1,7 @@
-use crate::{LineError, read_line};
+use crate::{LineError, is_end, read_head, read_line, read_next};
 use rvd_event::Names;
 use rvd_journal_text::push_entry;
+use rvd_reading::Rest;
 use std::str;
 use std::test::Fail;
 
@@ -143,4 +144,81 @@ fn a_damaged_line_is_bad(rt: HostRuntime) {
         let refused = read_line(rt.alloc(), line.as_bytes(), NAMES);
         assert!(rt; matches!(&refused, Err(LineError::BadLine)), "{damage}");
     }
+}
+
+#[test]
+fn a_head_line_is_read_with_its_line_feed(rt: HostRuntime) -> Result<(), Fail> {
+    let mut rest = Rest::of(b"journal 1 2 1\nend 0\n");
+    assert_eq!(rt; read_head(rt.alloc(), &mut rest)?, Some(NAMES));
+    assert_eq!(rt; str::from_utf8(rest.bytes()), Ok("end 0\n"));
+    Ok(())
+}
+
+#[test]
+fn another_head_line_is_none(rt: HostRuntime) -> Result<(), Fail> {
+    for (damage, text) in [
+        ("no session", "journal 1 0 1\n"),
+        ("17 sessions", "journal 1 17 1\n"),
+        ("9 workers", "journal 1 2 9\n"),
+        ("a leading zero", "journal 1 02 1\n"),
+        ("no line feed", "journal 1 2 1"),
+        ("another version", "journal 2 2 1\n"),
+    ] {
+        let mut rest = Rest::of(text.as_bytes());
+        assert!(rt; read_head(rt.alloc(), &mut rest)?.is_none(), "{damage}");
+    }
+    Ok(())
+}
+
+#[test]
+fn the_next_entry_is_read_with_its_line_feed(rt: HostRuntime) -> Result<(), Fail> {
+    let mut rest = Rest::of(b"1 s1 full = step 1; settled 1\n2 w1 offer 1 = \n");
+    for (number, line, left) in [
+        (1, "1 s1 full = step 1; settled 1", "2 w1 offer 1 = \n"),
+        (2, "2 w1 offer 1 = ", ""),
+    ] {
+        let entry = read_next(rt.alloc(), &mut rest, NAMES, number)?.ok_or("none")?;
+        let mut out = Vec::new(rt.alloc());
+        push_entry(number, &entry, NAMES, &mut out)?;
+        assert_eq!(rt; str::from_utf8(&out), Ok(line));
+        assert_eq!(rt; str::from_utf8(rest.bytes()), Ok(left));
+    }
+    Ok(())
+}
+
+#[test]
+fn another_line_is_no_next_entry(rt: HostRuntime) -> Result<(), Fail> {
+    for (damage, text) in [
+        ("another number", "2 s1 read = at 1\n"),
+        ("no line feed", "1 s1 read = at 1"),
+        ("a leading zero", "1 s1 read = at 01\n"),
+        ("a space behind the end", "1 s1 read = at 1 \n"),
+        ("a third session", "1 s3 read = at 1\n"),
+        ("an end line", "end 1\n"),
+        ("nothing", ""),
+    ] {
+        let mut rest = Rest::of(text.as_bytes());
+        let entry = read_next(rt.alloc(), &mut rest, NAMES, 1)?;
+        assert!(rt; entry.is_none(), "{damage}");
+    }
+    Ok(())
+}
+
+#[test]
+fn an_end_line_is_found_as_it_is_printed(rt: HostRuntime) -> Result<(), Fail> {
+    for (text, found) in [
+        ("end 2\n", true),
+        ("end 2\nmore", true),
+        ("end 2", false),
+        ("end 02\n", false),
+        ("end 20\n", false),
+        ("end 3\n", false),
+    ] {
+        assert_eq!(rt;
+            is_end(rt.alloc(), &Rest::of(text.as_bytes()), 2)?,
+            found,
+            "{text}"
+        );
+    }
+    Ok(())
 }

@@ -69,7 +69,7 @@ pub fn report(rt: &impl Eprint, words: &[String], ending: &Ending) -> io::Result
     match *ending {
         Ending::Done => Ok(()),
         Ending::Usage => {
-            eprintln!(rt; "usage: rvd show FILE, rvd list FILE, or rvd play FILE EVENTS")
+            eprintln!(rt; "usage: rvd show FILE, rvd list FILE, rvd play FILE EVENTS, or rvd replay FILE JOURNAL")
         }
         Ending::ReadFault { word } => {
             let file = word_at(words, word as usize);
@@ -84,6 +84,9 @@ pub fn report(rt: &impl Eprint, words: &[String], ending: &Ending) -> io::Result
         Ending::WriteFault => eprintln!(rt; "rvd: standard output can't be written"),
         Ending::Memory => eprintln!(rt; "rvd: out of memory"),
         Ending::TooLarge { what, count } => report_size(rt, words, what, count),
-        Ending::Differs { line } => eprintln!(rt; "rvd: the journal differs at line {line}"),
+        Ending::Differs { line } => {
+            let journal = word_at(words, 2);
+            eprintln!(rt; "rvd: {journal}: differs at line {line}")
+        }
     }
 }

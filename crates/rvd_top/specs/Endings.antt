@@ -1,4 +1,4 @@
--- How a command ends on what its file holds. Use `Ends` and `PlayEnds` where the files' bytes are
+-- How a command ends on what its file holds. Use `Ends`, `PlayEnds` and `ReplayEnds` where the files' bytes are
 -- known to be within the limit, and `EndsAbove` where they pass it.
 use Rattle.std.specs.Prelude.{◌≡◌, ℕ, List, [], take, Option, Some, None, Result, Ok, Err}
 use Rattle.std.specs.Io.KnownBytes.{Appends}
@@ -20,7 +20,9 @@ use Rattle.rvd_machine.specs.Steps.{max_entries}
 use Rattle.rvd_desk.specs.declared.answers.DeskError.{DeskError}
 use Rattle.rvd_desk.specs.declared.answers.DeskError.TheVariants as desk
 use Rattle.rvd_player.specs.Plays.{FillsJournal, head_of}
+use Rattle.rvd_replay.specs.Replayed.{DiffersAt, HasNoJournal}
 use Rattle.rvd_top.specs.Plays.{IsPlayed}
+use Rattle.rvd_top.specs.Replays.{IsReplayOf}
 
 -- the exit status
 abbrev pub status_of : Ending → ℕ
@@ -93,6 +95,35 @@ abbrev pub PlayEnds : Option (List ℕ) → Option (List ℕ) → List ℕ → L
 PlayEnds old new bytes lines (ReadFault word) = Unit {0}
 PlayEnds old new bytes lines ending = PlaysBoth old new (import_of bytes) (events_of lines) ending
 
+-- A text was put, or a front of it before a fault of writing, or there was no memory for it.
+abbrev pub IsPut : Option (List ℕ) → Option (List ℕ) → List ℕ → Ending → Type 0
+IsPut old new text Memory = Unit {0}
+IsPut old new text Done = Appends old new text
+IsPut old new text WriteFault = (n : ℕ) × Appends old new (take n text)
+IsPut old new text ending = ⊥
+
+-- How replaying a journal on a program ends, and what the sink then holds: the whole text of what it leads to, or a front of it
+-- after a fault of writing; else the first line that differs from all journals of the program. Memory may always run out.
+abbrev pub ReplaysOn : Option (List ℕ) → Option (List ℕ) → Program → List ℕ → Ending → Type 0
+ReplaysOn old new P journal Memory = Unit {0}
+ReplaysOn old new P journal Done = (text : List ℕ) × IsReplayOf P journal text × Appends old new text
+ReplaysOn old new P journal WriteFault = (text : List ℕ) × IsReplayOf P journal text × ((n : ℕ) × Appends old new (take n text))
+ReplaysOn old new P journal (Differs line) = DiffersAt P journal line × HasNoJournal P journal
+ReplaysOn old new P journal ending = ⊥
+
+-- How `replay` ends on what is imported and on a journal's text. Memory may always run out.
+abbrev pub ReplaysBoth : Option (List ℕ) → Option (List ℕ) → Result (List Change) ElfError → List ℕ → Ending → Type 0
+ReplaysBoth old new facts journal Memory = Unit {0}
+ReplaysBoth old new (Err refusal) journal Done = ⊥
+ReplaysBoth old new (Err refusal) journal WriteFault = ⊥
+ReplaysBoth old new (Err refusal) journal ending = ending ≡ ending_of refusal
+ReplaysBoth old new (Ok changes) journal ending = ReplaysOn old new (applied_all [] changes) journal ending
+
+-- How it ends on the bytes of both files within their limits. Whether a fault of reading comes isn't told by them.
+abbrev pub ReplayEnds : Option (List ℕ) → Option (List ℕ) → List ℕ → List ℕ → Ending → Type 0
+ReplayEnds old new bytes journal (ReadFault word) = Unit {0}
+ReplayEnds old new bytes journal ending = ReplaysBoth old new (import_of bytes) journal ending
+
 -- How it ends on the bytes of a file within the limit. Whether a fault of reading comes isn't told by them.
 abbrev pub Ends : Option (List ℕ) → Option (List ℕ) → Print → List ℕ → Ending → Type 0
 Ends old new print bytes (ReadFault word) = Unit {0}
@@ -122,6 +153,12 @@ IsWithoutFault Done = Unit {0}
 IsWithoutFault Memory = Unit {0}
 IsWithoutFault (TooLarge Entries count) = Unit {0}
 IsWithoutFault ending = ⊥
+
+-- the endings of a replay of a legal journal over accepted files: done, or no memory
+abbrev pub IsDone : Ending → Type 0
+IsDone Done = Unit {0}
+IsDone Memory = Unit {0}
+IsDone ending = ⊥
 
 -- an error of a desk that isn't stopped, and no refusal: its journal is full, or there is no memory
 abbrev pub IsUnstopped : DeskError → Type 0

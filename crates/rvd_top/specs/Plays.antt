@@ -15,11 +15,13 @@ use Rattle.rvd_report.specs.History.{history}
 abbrev pub names_of : Events → Names
 names_of file = record { sessions = file.sessions; workers = file.workers }
 
--- what is printed of a desk: its journal, the answers to queries, the history of its state, and the listing of its committed
--- program
+-- what is printed of the state of a desk: its history, and the listing of its committed program
+abbrev pub outcome_text : Names → Story → List ℕ
+outcome_text names d = history (state_of d).steps names ++ listing (base (state_of d))
+
+-- what is printed of a desk: its journal, the answers to queries, and its state
 abbrev pub desk_text : Names → Story → List Answered → List ℕ
-desk_text names d answers =
-    journal_text names d.journal ++ (answers_text answers ++ (history (state_of d).steps names ++ listing (base (state_of d))))
+desk_text names d answers = journal_text names d.journal ++ (answers_text answers ++ outcome_text names d)
 
 -- a text is that of a desk that has played an event file over a program
 pub record IsPlayed (P : Program) (file : Events) (text : List ℕ) : Type 0 where

@@ -1,5 +1,5 @@
--- The command words. A list of words is a command exactly where it passes `is_command`; `print_of` and
--- `play_of` say which.
+-- The command words. A list of words is a command exactly where it passes `is_command`; `print_of`, `play_of` and
+-- `replay_of` say which.
 use Rattle.std.specs.Prelude.{ℕ, Bool, ◌&&◌, ◌||◌, not, is_some, ◌==◌, nat_lt, if◌then◌else◌, List, [], ◌∷◌, length, slice_index, codes, Option, None, Some}
 use Rattle.std.specs.Option.{option_map}
 use Rattle.std.specs.Str.{bytes_eq}
@@ -18,11 +18,18 @@ abbrev pub print_of : List (List ℕ) → Option (Print × List ℕ)
 print_of (word ∷ file ∷ []) = if begins_with_dash file then None else option_map (λ print. (print, file)) (print_named word)
 print_of words = None
 
--- `play FILE EVENTS`, where neither begins with a dash
+-- a command of this name on two files, neither of which begins with a dash
+abbrev pub pair_of : List ℕ → List (List ℕ) → Option (List ℕ × List ℕ)
+pair_of name (word ∷ first ∷ second ∷ []) = if bytes_eq word name && not (begins_with_dash first || begins_with_dash second) then Some (first, second) else None
+pair_of name words = None
+
+-- `play FILE EVENTS` and `replay FILE JOURNAL`
 abbrev pub play_of : List (List ℕ) → Option (List ℕ × List ℕ)
-play_of (word ∷ file ∷ events ∷ []) = if bytes_eq word (codes "play") && not (begins_with_dash file || begins_with_dash events) then Some (file, events) else None
-play_of words = None
+play_of words = pair_of (codes "play") words
+
+abbrev pub replay_of : List (List ℕ) → Option (List ℕ × List ℕ)
+replay_of words = pair_of (codes "replay") words
 
 -- whether words are a command
 abbrev pub is_command : List (List ℕ) → Bool
-is_command words = is_some (print_of words) || is_some (play_of words)
+is_command words = is_some (print_of words) || (is_some (play_of words) || is_some (replay_of words))

@@ -11,9 +11,10 @@
 mod endings;
 mod play_runs;
 mod print_runs;
+mod replay_runs;
 mod runs;
 mod texts;
 mod words;
 
 pub use endings::Ending;
-pub use runs::{MAX_FILE, run, run_plain};
+pub use runs::{MAX_FILE, MAX_JOURNAL, run, run_plain};

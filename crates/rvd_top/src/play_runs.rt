@@ -1,4 +1,4 @@
-ghost use Rattle.std.specs.Prelude.{◌≡◌, ◌≢◌, ◌⊎◌, ◌<◌, ◌≤◌, [], ℕ, List, Some, Ok, IfOk, IfErr, length};
+ghost use Rattle.std.specs.Prelude.{◌≡◌, ◌≢◌, ◌⊎◌, ◌++◌, ◌<◌, ◌≤◌, [], ℕ, List, Some, Ok, IfOk, IfErr, OnOk, length};
 ghost use Rattle.std.specs.Io.KnownBytes.{Appends};
 ghost use Rattle.rvd_io.specs.Causes.{Rose};
 ghost use Rattle.rvd_fact.specs.declared.cells.Change.{Change};
@@ -7,6 +7,8 @@ ghost use Rattle.rvd_elf.specs.Import.{import_of};
 ghost use Rattle.rvd_script.specs.Legal.{Events};
 ghost use Rattle.rvd_script.specs.Files.{events_of};
 ghost use Rattle.rvd_player.specs.Plays.{head_of, PlayFails};
+ghost use Rattle.rvd_report.specs.Listing.{listing};
+ghost use Rattle.rvd_report.specs.History.{history};
 ghost use Rattle.rvd_top.specs.Plays.{desk_text, IsPlayed};
 ghost use Rattle.rvd_top.specs.Runs.{PlayRuns};
 ghost use Rattle.rvd_top.specs.Endings.{PlayEnds, PlaysBoth, PlaysOn, EndsAbove, IsWithoutFault, KeepsSink};
@@ -16,7 +18,7 @@ use crate::runs::MAX_FILE;
 use crate::texts::program_of;
 use rvd_desk::{Desk, DeskError};
 use rvd_elf::import;
-use rvd_event::Names;
+use rvd_event::{Names, Step};
 use rvd_fact::What;
 use rvd_io::{Cabinet, FetchError, PutError, Sink, put_all};
 use rvd_journal_text::print;
@@ -25,6 +27,20 @@ use rvd_program::Program;
 use rvd_report::{Answered, answers, history, listing};
 use rvd_script::{EventFile, read_events};
 use std::alloc::{AllocError, Global};
+
+/// Appends the history and the listing of a state.
+pub(crate) fn push_outcome(
+    alloc: Global,
+    base: &Program,
+    steps: &[Step],
+    names: Names,
+    text: &mut Vec<u8>,
+) -> Result<(), AllocError>
+    ensures { OnOk result (text.new.items ≡ text.old.items ++ (history steps.now names ++ listing base.now)) }
+{
+    history(steps, names, text)?;
+    listing(alloc, base, text)
+}
 
 // The journal, the answers to queries, the history and the listing of a desk.
 fn desk_text(
@@ -39,8 +55,7 @@ fn desk_text(
     let mut text = Vec::new(alloc);
     print(&journal, names, &mut text)?;
     answers(answered, &mut text)?;
-    history(&steps, names, &mut text)?;
-    listing(alloc, &base, &mut text)?;
+    push_outcome(alloc, &base, &steps, names, &mut text)?;
     Ok(text)
 }
 

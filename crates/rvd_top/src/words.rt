@@ -1,7 +1,6 @@
-ghost use Rattle.std.specs.Prelude.{◌≡◌, map, string_bytes, codes};
+ghost use Rattle.std.specs.Prelude.{◌≡◌, map, string_bytes};
 ghost use Rattle.std.specs.Option.{option_map};
-ghost use Rattle.std.specs.Str.{bytes_eq};
-ghost use Rattle.rvd_top.specs.Words.{begins_with_dash, play_of, print_named, print_of};
+ghost use Rattle.rvd_top.specs.Words.{begins_with_dash, pair_of, print_named, print_of};
 
 /// What is printed of a file.
 #[derive(Clone, Copy, Debug, PartialEq, Eq)]
@@ -29,12 +28,6 @@ fn print_named(word: &str) -> Option<Print>
     }
 }
 
-fn is_play(word: &str) -> bool
-    ensures { result ≡ bytes_eq word.now (codes "play") }
-{
-    word == "play"
-}
-
 /// What is printed of a file by these words, and the name of the file.
 pub(crate) fn parse_print(words: &[String]) -> Option<(Print, &str)>
     ensures { option_map (λ command. (command.0, command.1.now)) result ≡ print_of (map string_bytes words.now) }
@@ -48,16 +41,16 @@ pub(crate) fn parse_print(words: &[String]) -> Option<(Print, &str)>
     }
 }
 
-/// The names of the file and of the event file that these words play on it.
-pub(crate) fn parse_play(words: &[String]) -> Option<(&str, &str)>
-    ensures { option_map (λ command. (command.0.now, command.1.now)) result ≡ play_of (map string_bytes words.now) }
+/// The names of the two files on which these words run a command of this name.
+pub(crate) fn parse_pair<'a>(words: &'a [String], name: &str) -> Option<(&'a str, &'a str)>
+    ensures { option_map (λ command. (command.0.now, command.1.now)) result ≡ pair_of name.now (map string_bytes words.now) }
 {
     match words {
-        [first, file, events] if is_play(first.as_str()) => {
-            if is_dashed(file.as_str()) || is_dashed(events.as_str()) {
+        [word, first, second] if word.as_str() == name => {
+            if is_dashed(first.as_str()) || is_dashed(second.as_str()) {
                 return None;
             }
-            Some((file.as_str(), events.as_str()))
+            Some((first.as_str(), second.as_str()))
         }
         _ => None,
     }

@@ -1,0 +1,4 @@
+pub mod BareSteps
+pub mod Texts
+pub mod Exactness
+pub mod Replays
