@@ -3,6 +3,7 @@ use rvd_event::Names;
 use rvd_journal_text::print;
 use rvd_player::{Played, play};
 use rvd_program::Program;
+use rvd_replay::{Replayed, replay};
 use rvd_report::{answers, history, listing};
 use rvd_script::read_events;
 use std::alloc::Global;
@@ -29,7 +30,7 @@ fn imported(alloc: Global, file: &[u8]) -> Result<Program, Fail> {
     Ok(program)
 }
 
-/// Plays an event file on the imported program of an executable.
+/// Plays an event file on the imported program of an executable, and replays its journal.
 pub fn played(alloc: Global, file: &[u8], events: &[u8]) -> Result<Texts, Fail> {
     let program = imported(alloc, file)?;
     let Ok(events) = read_events(alloc, events) else {
@@ -59,5 +60,25 @@ pub fn played(alloc: Global, file: &[u8], events: &[u8]) -> Result<Texts, Fail> 
     answers(&answered, &mut texts.answers)?;
     history(&steps, names, &mut texts.history)?;
     listing(alloc, &base, &mut texts.listing)?;
+    check_replay(alloc, imported(alloc, file)?, names, &texts)?;
     Ok(texts)
+}
+
+// Replaying a journal has to lead to the history and the listing that playing did.
+fn check_replay(alloc: Global, program: Program, names: Names, texts: &Texts) -> Result<(), Fail> {
+    let Ok(Replayed::Done(desk)) = replay(alloc, program, &texts.journal) else {
+        return Err(Fail::new("the journal isn't replayed"));
+    };
+    let (base, steps, _) = desk.close();
+    let mut again = Vec::new(alloc);
+    history(&steps, names, &mut again)?;
+    if again.as_slice() != texts.history.as_slice() {
+        return Err(Fail::new("the journal has another history"));
+    }
+    again.clear();
+    listing(alloc, &base, &mut again)?;
+    if again.as_slice() != texts.listing.as_slice() {
+        return Err(Fail::new("the journal has another listing"));
+    }
+    Ok(())
 }

@@ -69,7 +69,9 @@ pub fn report(rt: &impl Eprint, words: &[String], ending: &Ending) -> io::Result
     match *ending {
         Ending::Done => Ok(()),
         Ending::Usage => {
-            eprintln!(rt; "usage: rvd show FILE, rvd list FILE, rvd play FILE EVENTS, or rvd replay FILE JOURNAL")
+            eprintln!(rt;
+                "usage: rvd show FILE, rvd list FILE, rvd play FILE EVENTS, or rvd replay FILE JOURNAL"
+            )
         }
         Ending::ReadFault { word } => {
             let file = word_at(words, word as usize);

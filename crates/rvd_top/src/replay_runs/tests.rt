@@ -19,6 +19,11 @@ journal 1 2 1
 end 8
 ";
 
+// The lowest bytes of the entry point and of the segment's address in file A.
+const ENTRY_POINT: usize = 24;
+
+const SEGMENT_ADDRESS: usize = 60;
+
 const OUTCOME: &str = "\
 history 1
 1 full s1
@@ -35,9 +40,10 @@ fn text(alloc: Global, word: &str) -> Result<Text, Fail> {
     Ok(Text::of(alloc, bytes)?)
 }
 
-// How replaying a journal on file A ends, and what the sink then holds.
-fn replay(
+// How replaying a journal on a file ends, and what the sink then holds.
+fn replay_on(
     alloc: Global,
+    file: &[u8],
     journal: &[u8],
     failing: &[u64],
 ) -> Result<(Ending, MemorySink), Fail> {
@@ -46,12 +52,16 @@ fn replay(
         words.push(String::from_str(alloc, word)?)?;
     }
     let mut files = Vec::new(alloc);
-    files.push((text(alloc, "A")?, Vec::from_slice(alloc, &FILE_A)?))?;
+    files.push((text(alloc, "A")?, Vec::from_slice(alloc, file)?))?;
     files.push((text(alloc, "J")?, Vec::from_slice(alloc, journal)?))?;
     let mut files = MemoryCabinet::new(alloc, files, Vec::from_slice(alloc, failing)?);
     let mut out = MemorySink::new(alloc, 10_000, Vec::new(alloc))?;
     let ending = run_plain(alloc, &words, &mut files, &mut out);
     Ok((ending, out))
+}
+
+fn replay(alloc: Global, journal: &[u8], failing: &[u64]) -> Result<(Ending, MemorySink), Fail> {
+    replay_on(alloc, &FILE_A, journal, failing)
 }
 
 // The text with another one in place of its part from here on, up to there.
@@ -77,15 +87,35 @@ fn replays_a_journal(rt: HostRuntime) -> Result<(), Fail> {
 fn names_the_first_line_that_differs(rt: HostRuntime) -> Result<(), Fail> {
     let alloc = rt.alloc();
     let rows = [
-        ("another item", "job 2 flow:00010054", "job 2 flow:00010058", 9),
+        (
+            "another item",
+            "job 2 flow:00010054",
+            "job 2 flow:00010058",
+            9,
+        ),
         ("no end line", "end 8\n", "", 10),
         ("an end line without its line feed", "end 8\n", "end 8", 10),
         ("another number of entries", "end 8\n", "end 7\n", 10),
-        ("an end line before the last entry", "8 w1", "end 7\n8 w1", 9),
-        ("another reply", "begin \"b\" = entry 2", "begin \"b\" = entry 3", 4),
+        (
+            "an end line that counts one more entry",
+            "8 w1",
+            "end 8\n8 w1",
+            9,
+        ),
+        (
+            "another reply",
+            "begin \"b\" = entry 2",
+            "begin \"b\" = entry 3",
+            4,
+        ),
         ("a session that isn't there", "3 s2", "3 s3", 4),
         ("a number left out", "5 w1", "6 w1", 6),
-        ("a carriage return", "full = step 1\n", "full = step 1\r\n", 2),
+        (
+            "a carriage return",
+            "full = step 1\n",
+            "full = step 1\r\n",
+            2,
+        ),
         ("upper case", "flow:00010054\n5", "flow:0001005F\n5", 5),
         ("a Settled step", "entry 1\n", "entry 1; settled 2\n", 3),
         ("another head line", "journal 1 2 1", "journal 1 02 1", 1),
@@ -99,6 +129,19 @@ fn names_the_first_line_that_differs(rt: HostRuntime) -> Result<(), Fail> {
     }
     let (ending, _) = replay(alloc, &[], &[])?;
     assert_eq!(rt; ending, Ending::Differs { line: 1 });
+    Ok(())
+}
+
+// The same instructions, loaded elsewhere: the first job has another item.
+#[test]
+fn a_journal_of_another_file_differs(rt: HostRuntime) -> Result<(), Fail> {
+    let mut moved = FILE_A;
+    for place in [ENTRY_POINT, SEGMENT_ADDRESS] {
+        moved[place] = 0x58;
+    }
+    let (ending, out) = replay_on(rt.alloc(), &moved, ROLLED_BACK.as_bytes(), &[])?;
+    assert_eq!(rt; ending, Ending::Differs { line: 5 });
+    assert!(rt; out.bytes().is_empty());
     Ok(())
 }
 

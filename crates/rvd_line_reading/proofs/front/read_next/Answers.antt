@@ -28,7 +28,7 @@ returns-then-branch c =
       line = line;
       range = range;
       bare = read-bare c.args.names c.args.number c.args.rest.now c.numbered.new.rest c.in-Ok.read c.ranges.number.fits
-        (ap (entry_of c.args.names) (sym (c.of-copy.ensures ∙ c.bytes.ensures)) ∙ c.in-Ok.ensures) range (c.strip_entry.new.rest, line);
+          (ap (entry_of c.args.names) (sym (c.of-copy.ensures ∙ c.bytes.ensures)) ∙ c.in-Ok.ensures) range (c.strip_entry.new.rest, line);
     }
 
 pub returns-else-branch : goal.returns-else-branch
