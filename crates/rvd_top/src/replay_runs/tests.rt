@@ -161,6 +161,50 @@ fn names_the_line_where_a_journal_is_cut(rt: HostRuntime) -> Result<(), Fail> {
     Ok(())
 }
 
+// The next digit, and 0 after 9.
+fn next_digit(digit: u8) -> u8 {
+    if digit == b'9' { b'0' } else { digit + 1 }
+}
+
+// Where a changed digit at this column of this line is told, both counted from 1; none where the journal is a legal one still:
+// with more sessions or workers, with the other session's analysis, and with a job that might have had two items.
+fn digit_is_told(line: u32, column: u32) -> Option<u32> {
+    match (line, column) {
+        (1, 11 | 13) | (2, 4) | (5, 11) => None,
+        // The begin is the other session's, so the first one's commit at line 8 has no entry.
+        (3, 4) => Some(8),
+        _ => Some(line),
+    }
+}
+
+#[test]
+fn names_the_line_where_a_digit_is_changed(rt: HostRuntime) -> Result<(), Fail> {
+    let alloc = rt.alloc();
+    let mut journal = Vec::from_slice(alloc, ROLLED_BACK.as_bytes())?;
+    let (mut line, mut column) = (1, 0);
+    for place in 0..journal.len() {
+        let byte = journal[place];
+        column += 1;
+        if byte == b'\n' {
+            line += 1;
+            column = 0;
+        }
+        if !byte.is_ascii_digit() {
+            continue;
+        }
+        journal[place] = next_digit(byte);
+        let (ending, out) = replay(alloc, &journal, &[])?;
+        let wanted = match digit_is_told(line, column) {
+            Some(line) => Ending::Differs { line },
+            None => Ending::Done,
+        };
+        assert_eq!(rt; ending, wanted, "line {line}, column {column}");
+        assert_eq!(rt; out.bytes().is_empty(), ending != Ending::Done, "line {line}, column {column}");
+        journal[place] = byte;
+    }
+    Ok(())
+}
+
 #[test]
 fn names_the_word_of_a_fault(rt: HostRuntime) -> Result<(), Fail> {
     for word in 1..3 {
