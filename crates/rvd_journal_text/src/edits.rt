@@ -5,12 +5,12 @@ ghost use Rattle.rvd_notation.specs.Pieces.{Keeps};
 ghost use Rattle.rvd_notation.specs.Words.{bookmark_word, class_word, comment_word, form_words, perm_word, range_text};
 ghost use Rattle.rvd_journal_text.specs.Edits.{edit_text, range_words};
 
-use crate::words::{
-    push_at, push_bookmark_type, push_comment_kind, push_form, push_key_of, push_range, push_spaced,
-};
+use crate::words::{push_at, push_key_of, push_spaced};
 use rvd_event::Edit;
 use rvd_fact::{Addr, Form, Key, Kind, Perm, RangeSet, RefClass, Text};
-use rvd_notation::{class_word, perm_word};
+use rvd_notation::{
+    class_word, perm_word, push_bookmark_type, push_comment_kind, push_form, push_range,
+};
 use rvd_text::push_quoted;
 use std::alloc::AllocError;
 

@@ -2,9 +2,9 @@ ghost use Rattle.std.specs.Prelude.{◌≡◌, ◌++◌, OnOk, OnErr, codes};
 ghost use Rattle.std.specs.Fmt.{decimal};
 ghost use Rattle.rvd_text.specs.Hex.{hex8};
 ghost use Rattle.rvd_notation.specs.Pieces.{Keeps};
-ghost use Rattle.rvd_notation.specs.Words.{bookmark_word, comment_word, form_words, key_text, range_text};
+ghost use Rattle.rvd_notation.specs.Words.{key_text};
 
-use rvd_fact::{Addr, Form, Key};
+use rvd_fact::{Addr, Key};
 use rvd_notation::push_key;
 use rvd_text::{push_dec, push_hex8};
 use std::alloc::AllocError;
@@ -43,57 +43,4 @@ pub fn push_spaced(out: &mut Vec<u8>, word: &[u8]) -> Result<(), AllocError>
 {
     out.push(b' ')?;
     out.extend_from_slice(word)
-}
-
-/// Appends the kind of a comment.
-pub fn push_comment_kind(out: &mut Vec<u8>, sub: u8) -> Result<(), AllocError>
-    ensures ok { OnOk result (out.new.items ≡ out.old.items ++ comment_word sub) }
-    ensures err { OnErr result (out.new.items ≡ out.old.items) }
-{
-    match sub {
-        0 => out.extend_from_slice(b"plate"),
-        1 => out.extend_from_slice(b"pre"),
-        2 => out.extend_from_slice(b"eol"),
-        3 => out.extend_from_slice(b"post"),
-        4 => out.extend_from_slice(b"repeatable"),
-        _ => push_dec(out, u64::from(sub)),
-    }
-}
-
-/// Appends the type of a bookmark.
-pub fn push_bookmark_type(out: &mut Vec<u8>, sub: u8) -> Result<(), AllocError>
-    ensures ok { OnOk result (out.new.items ≡ out.old.items ++ bookmark_word sub) }
-    ensures err { OnErr result (out.new.items ≡ out.old.items) }
-{
-    match sub {
-        0 => out.extend_from_slice(b"note"),
-        1 => out.extend_from_slice(b"info"),
-        2 => out.extend_from_slice(b"analysis"),
-        3 => out.extend_from_slice(b"warning"),
-        4 => out.extend_from_slice(b"error"),
-        _ => push_dec(out, u64::from(sub)),
-    }
-}
-
-/// Appends the words of a form.
-pub fn push_form(out: &mut Vec<u8>, form: Form) -> Result<(), AllocError>
-    ensures ok { OnOk result (out.new.items ≡ out.old.items ++ form_words form) }
-    ensures err { OnErr result (Keeps out.old.items out.new.items) }
-{
-    match form {
-        Form::Byte => out.extend_from_slice(b"byte"),
-        Form::Half => out.extend_from_slice(b"half"),
-        Form::Word => out.extend_from_slice(b"word"),
-        Form::Str(len) => push_count(out, b"string ", u64::from(len)),
-    }
-}
-
-/// Appends a range: its first address and its last.
-pub fn push_range(out: &mut Vec<u8>, range: (Addr, Addr)) -> Result<(), AllocError>
-    ensures ok { OnOk result (out.new.items ≡ out.old.items ++ range_text range) }
-    ensures err { OnErr result (Keeps out.old.items out.new.items) }
-{
-    push_hex8(out, range.0)?;
-    out.push(b'-')?;
-    push_hex8(out, range.1)
 }

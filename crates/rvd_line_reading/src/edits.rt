@@ -2,7 +2,7 @@ ghost use Rattle.std.specs.Prelude.{◌≡◌};
 ghost use Rattle.rvd_reading.specs.Steps.{Reads, with_rest};
 ghost use Rattle.rvd_line_reading.specs.Edits.{block_of, body_of, bookmark_of, comment_of, datum_of, edit_of, label_of, ref_of};
 
-use crate::range_words::range_set;
+use crate::range_words::range_words;
 use rvd_event::Edit;
 use rvd_reading::{
     ReadError, Rest, Unread, bookmark_type, class, comment_kind, form, hex8, key, perm, quoted,
@@ -26,7 +26,7 @@ fn body(alloc: Global, rest: &mut Rest) -> Result<Edit, ReadError>
     ensures { Reads rest.new result (body_of rest.old) }
 {
     let at = hex8(rest)?;
-    let ranges = range_set(alloc, rest)?;
+    let ranges = range_words(alloc, rest)?;
     Ok(Edit::Body(at, ranges))
 }
 

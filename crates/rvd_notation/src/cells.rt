@@ -40,7 +40,8 @@ fn push_symbol(out: &mut Vec<u8>, slot: u8, name: &Text) -> Result<(), AllocErro
     push_quoted(out, name.list())
 }
 
-fn push_comment_word(out: &mut Vec<u8>, sub: u8) -> Result<(), AllocError>
+/// Appends the kind of a comment: its word, or the number of one that has none.
+pub fn push_comment_kind(out: &mut Vec<u8>, sub: u8) -> Result<(), AllocError>
     ensures ok { OnOk result (out.new.items ≡ out.old.items ++ comment_word sub) }
     ensures err { OnErr result (out.new.items ≡ out.old.items) }
 {
@@ -59,12 +60,13 @@ fn push_comment(out: &mut Vec<u8>, sub: u8, text: &Text) -> Result<(), AllocErro
     ensures err { OnErr result (Keeps out.old.items out.new.items) }
 {
     out.extend_from_slice(b"comment ")?;
-    push_comment_word(out, sub)?;
+    push_comment_kind(out, sub)?;
     out.push(b' ')?;
     push_quoted(out, text.list())
 }
 
-fn push_bookmark_word(out: &mut Vec<u8>, sub: u8) -> Result<(), AllocError>
+/// Appends the type of a bookmark: its word, or the number of one that has none.
+pub fn push_bookmark_type(out: &mut Vec<u8>, sub: u8) -> Result<(), AllocError>
     ensures ok { OnOk result (out.new.items ≡ out.old.items ++ bookmark_word sub) }
     ensures err { OnErr result (out.new.items ≡ out.old.items) }
 {
@@ -83,24 +85,33 @@ fn push_bookmark(out: &mut Vec<u8>, sub: u8, text: &Text) -> Result<(), AllocErr
     ensures err { OnErr result (Keeps out.old.items out.new.items) }
 {
     out.extend_from_slice(b"bookmark ")?;
-    push_bookmark_word(out, sub)?;
+    push_bookmark_type(out, sub)?;
     out.push(b' ')?;
     push_quoted(out, text.list())
 }
 
-fn push_form(out: &mut Vec<u8>, form: Form) -> Result<(), AllocError>
-    ensures ok { OnOk result (out.new.items ≡ out.old.items ++ (codes "data " ++ form_words form)) }
+/// Appends the words of a form, or a front of them where there is no memory.
+pub fn push_form(out: &mut Vec<u8>, form: Form) -> Result<(), AllocError>
+    ensures ok { OnOk result (out.new.items ≡ out.old.items ++ form_words form) }
     ensures err { OnErr result (Keeps out.old.items out.new.items) }
 {
     match form {
-        Form::Byte => out.extend_from_slice(b"data byte"),
-        Form::Half => out.extend_from_slice(b"data half"),
-        Form::Word => out.extend_from_slice(b"data word"),
+        Form::Byte => out.extend_from_slice(b"byte"),
+        Form::Half => out.extend_from_slice(b"half"),
+        Form::Word => out.extend_from_slice(b"word"),
         Form::Str(len) => {
-            out.extend_from_slice(b"data string ")?;
+            out.extend_from_slice(b"string ")?;
             push_dec(out, u64::from(len))
         }
     }
+}
+
+fn push_data(out: &mut Vec<u8>, form: Form) -> Result<(), AllocError>
+    ensures ok { OnOk result (out.new.items ≡ out.old.items ++ (codes "data " ++ form_words form)) }
+    ensures err { OnErr result (Keeps out.old.items out.new.items) }
+{
+    out.extend_from_slice(b"data ")?;
+    push_form(out, form)
 }
 
 fn push_ref(out: &mut Vec<u8>, slot: u8, to: Addr, class: RefClass) -> Result<(), AllocError>
@@ -145,7 +156,7 @@ fn push_fact(out: &mut Vec<u8>, key: &Key, value: &Value) -> Result<(), AllocErr
             out.extend_from_slice(b"code ")?;
             push_hex8(out, *word)
         }
-        Value::Plain(form) => push_form(out, *form),
+        Value::Plain(form) => push_data(out, *form),
         Value::Ref { to, class } => push_ref(out, key.sub, *to, *class),
         Value::Gone => push_gone(out, key),
     }

@@ -31,7 +31,8 @@ pub fn push_key(out: &mut Vec<u8>, key: &Key) -> Result<(), AllocError>
     pushed
 }
 
-fn push_range(out: &mut Vec<u8>, range: (Addr, Addr)) -> Result<(), AllocError>
+/// Appends a range, its first and its last address, or a front of it where there is no memory.
+pub fn push_range(out: &mut Vec<u8>, range: (Addr, Addr)) -> Result<(), AllocError>
     ensures ok { OnOk result (out.new.items ≡ out.old.items ++ range_text range) }
     ensures err { OnErr result (Keeps out.old.items out.new.items) }
 {

@@ -4,11 +4,12 @@
 //!
 //! * [`push_value`] appends a whole cell: the word of its source and its fact.
 //! * [`push_key`] and [`push_ranges`] append a key and a set of addresses.
+//! * [`push_comment_kind`], [`push_bookmark_type`], [`push_form`] and [`push_range`] append parts of facts.
 //! * [`push_actor`] appends an actor: a session or a worker.
 //! * [`analyzer_word`], [`source_word`], [`kind_word`], [`class_word`], [`perm_word`], [`init_word`] and [`hex2`] are the fixed words.
 //!
-//! Where there is no memory, a call leaves what it appends to as it was. The definitions stand in
-//! `specs/`: `Words`, `Values` with `value_text`, and `Actors` with `actor_text`.
+//! Where there is no memory, a call leaves what it appends to as it was; [`push_form`] and [`push_range`] alone may leave a
+//! front. The definitions stand in `specs/`: `Words`, `Values` with `value_text`, and `Actors` with `actor_text`.
 #![tactic(auto)]
 
 mod actors;
@@ -17,6 +18,6 @@ mod keys;
 mod words;
 
 pub use actors::{analyzer_word, push_actor};
-pub use cells::push_value;
-pub use keys::{push_key, push_ranges};
+pub use cells::{push_bookmark_type, push_comment_kind, push_form, push_value};
+pub use keys::{push_key, push_range, push_ranges};
 pub use words::{class_word, hex2, init_word, kind_word, perm_word, source_word};

@@ -2,7 +2,7 @@
 //!
 //! * [`Rest`] is what is left of a text. Each reader takes its part from the front, and gives it.
 //! * [`kind`], [`source`], [`class`] and [`analyzer`] read fixed words; [`hex8`] and [`number`] read numbers, [`quoted`] a quoted
-//!   text, [`key`] a key, [`range`] a range and [`ranges`] a set of addresses.
+//!   text, [`key`] a key, [`range`] a range and [`ranges`] a set of addresses. [`range_set`] makes a set of ranges that were read.
 //! * [`perm`], [`form`], [`comment_kind`] and [`bookmark_type`] read parts of facts, [`cell`] a whole cell, and [`actor`] an actor.
 //!
 //! A reader may read more than what is printed, as digits of upper case or leading zeros. Whether a text is spelled as it is
@@ -32,7 +32,7 @@ pub use keys::key;
 pub use laws::reading_law;
 pub use numbers::{hex8, number};
 pub use quotes::quoted;
-pub use range_sets::{range, ranges};
+pub use range_sets::{range, range_set, ranges};
 pub use rest::Rest;
 pub use std::alloc::AllocError as OutOfMemory;
 pub use values::cell;

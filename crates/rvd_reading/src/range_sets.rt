@@ -1,4 +1,4 @@
-ghost use Rattle.std.specs.Prelude.{◌≡◌, true, IfOk};
+ghost use Rattle.std.specs.Prelude.{◌≡◌, true, false, IfOk, IsErrOf};
 ghost use Rattle.rvd_fact.specs.Ranges.{is_range_set};
 ghost use Rattle.rvd_reading.specs.Steps.{Reads, with_rest};
 ghost use Rattle.rvd_reading.specs.Lists.{Appends, more_ranges_of, range_list_of, range_of, ranges_of};
@@ -64,7 +64,7 @@ fn is_range_set(ranges: &[(Addr, Addr)]) -> bool
 }
 
 /// The set of ranges that are in order, and neither meet nor touch.
-fn set_of(alloc: Global, ranges: &[(Addr, Addr)]) -> Result<RangeSet, AllocError>
+fn collect(alloc: Global, ranges: &[(Addr, Addr)]) -> Result<RangeSet, AllocError>
     requires { is_range_set ranges.now ≡ true }
     ensures { IfOk result (λ set. set ≡ ranges.now) }
 {
@@ -75,6 +75,17 @@ fn set_of(alloc: Global, ranges: &[(Addr, Addr)]) -> Result<RangeSet, AllocError
     Ok(set)
 }
 
+/// The set of addresses of these ranges. They are `Unread` where they aren't in order, or where two of them meet or touch.
+pub fn range_set(alloc: Global, ranges: &[(Addr, Addr)]) -> Result<RangeSet, ReadError>
+    ensures ok { IfOk result (λ set. (set ≡ ranges.now) × (is_range_set ranges.now ≡ true)) }
+    ensures unread { IsErrOf result ReadError.Unread → is_range_set ranges.now ≡ false }
+{
+    if !is_range_set(ranges) {
+        return Err(ReadError::Unread);
+    }
+    Ok(collect(alloc, ranges)?)
+}
+
 /// A set of addresses: its ranges with a comma between two of them, or a dash.
 #[tactic(auto, unfolding(crate::specs::Lists::ranges_of))]
 pub fn ranges(alloc: Global, rest: &mut Rest) -> Result<RangeSet, ReadError>
@@ -82,8 +93,5 @@ pub fn ranges(alloc: Global, rest: &mut Rest) -> Result<RangeSet, ReadError>
 {
     let mut list = Vec::new(alloc);
     push_ranges(rest, &mut list)?;
-    if !is_range_set(&list) {
-        return Err(ReadError::Unread);
-    }
-    Ok(set_of(alloc, &list)?)
+    range_set(alloc, &list)
 }

@@ -1,5 +1,5 @@
 use Rattle.std.proofs.Common.{◌≡◌, take}
-use Rattle.rvd_line_reading.proofs.range_words.set_of.Given as goal
+use Rattle.rvd_reading.proofs.range_sets.collect.Given as goal
 
 -- the ranges so far
 abbrev pub invariant-loop-range : goal.invariant-loop-range

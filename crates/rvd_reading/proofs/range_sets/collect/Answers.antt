@@ -1,6 +1,6 @@
 use Rattle.rvd_fact.proofs.RangeLists.{range_at}
 use Rattle.rvd_reading.proofs.SetsBack.{are_ranges, one_more}
-use Rattle.rvd_reading.proofs.range_sets.set_of.Goals as goal
+use Rattle.rvd_reading.proofs.range_sets.collect.Goals as goal
 
 pub add-requires : goal.add-requires
 add-requires c = (range_at 0 c.loop-range.range-index (0, 0) c.args.ranges.now (are_ranges c.args.ranges.now c.requires) c.loop-range-test.true).1
