@@ -1,13 +1,8 @@
 #!/usr/bin/env bash
 # Times `rvd list`, which analyses a whole program, on executables with 125, 250, 500 and 1,000 functions that a script makes.
 # Run it after `rt ci` has built the program.
-set -u
-top=$(cd "$(dirname "$0")/.." && pwd) || exit 1
-program=$top/crates/rvd_main/out/rvd_main
-[ -x "$program" ] || { echo "bench_analysis: build the program first: rt ci, or ./rvd show FILE"; exit 1; }
-command -v python3 >/dev/null || { echo "bench_analysis: skipped, no python3"; exit 0; }
-work=$(mktemp -d) || exit 1
-trap 'rm -rf "$work"' EXIT
+. "$(dirname "$0")/program.sh"
+needs python3
 for count in 125 250 500 1000; do
   python3 "$top/scripts/generated_image.py" "$count" "$work/image" || exit 1
   start=$(date +%s%N)

@@ -1,13 +1,8 @@
 #!/usr/bin/env bash
 # Times importing and listing executables with 50,000, 100,000 and 199,999 symbols, which a script makes, by `rvd play` of an
 # event file without calls. Run it after `rt ci` has built the program.
-set -u
-top=$(cd "$(dirname "$0")/.." && pwd) || exit 1
-program=$top/crates/rvd_main/out/rvd_main
-[ -x "$program" ] || { echo "bench_import: build the program first: rt ci, or ./rvd show FILE"; exit 1; }
-command -v python3 >/dev/null || { echo "bench_import: skipped, no python3"; exit 0; }
-work=$(mktemp -d) || exit 1
-trap 'rm -rf "$work"' EXIT
+. "$(dirname "$0")/program.sh"
+needs python3
 python3 - "$top" "$work" "$program" <<'END'
 import random, struct, subprocess, sys, time
 top, work, program = sys.argv[1:]

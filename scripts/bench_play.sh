@@ -1,13 +1,8 @@
 #!/usr/bin/env bash
 # Times `rvd play` on event files of one transaction with 25,000, 50,000 and 99,994 changes, which is committed, undone and
 # redone, and on one of 33 MB. A script makes the files. Run it after `rt ci` has built the program.
-set -u
-top=$(cd "$(dirname "$0")/.." && pwd) || exit 1
-program=$top/crates/rvd_main/out/rvd_main
-[ -x "$program" ] || { echo "bench_play: build the program first: rt ci, or ./rvd show FILE"; exit 1; }
-command -v python3 >/dev/null || { echo "bench_play: skipped, no python3"; exit 0; }
-work=$(mktemp -d) || exit 1
-trap 'rm -rf "$work"' EXIT
+. "$(dirname "$0")/program.sh"
+needs python3
 python3 - "$top" "$work" "$program" <<'END'
 import resource, subprocess, sys, time
 top, work, program = sys.argv[1:]

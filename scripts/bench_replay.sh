@@ -2,13 +2,8 @@
 # Times `rvd replay` against the run that made the journal: `rvd play` of one transaction with 25,000, 50,000 and 99,994 changes,
 # and of whole analyses of generated programs; then `rvd replay` alone on journals of 999,998 entries, one of them of hundreds of
 # megabytes. A script makes the files. Run it after `rt ci` has built the program.
-set -u
-top=$(cd "$(dirname "$0")/.." && pwd) || exit 1
-program=$top/crates/rvd_main/out/rvd_main
-[ -x "$program" ] || { echo "bench_replay: build the program first: rt ci, or ./rvd show FILE"; exit 1; }
-command -v python3 >/dev/null || { echo "bench_replay: skipped, no python3"; exit 0; }
-work=$(mktemp -d) || exit 1
-trap 'rm -rf "$work"' EXIT
+. "$(dirname "$0")/program.sh"
+needs python3
 python3 - "$top" "$work" "$program" <<'END'
 import resource, subprocess, sys, time
 top, work, program = sys.argv[1:]

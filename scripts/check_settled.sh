@@ -1,12 +1,7 @@
 #!/usr/bin/env bash
 # Shows on a compiled program that a whole analysis leaves nothing to do: what `rvd list` prints is what `rvd play` prints after
 # two analyses, and the second one changes nothing. Run it after `rt ci` has built the program.
-set -u
-top=$(cd "$(dirname "$0")/.." && pwd) || exit 1
-program=$top/crates/rvd_main/out/rvd_main
-[ -x "$program" ] || { echo "check_settled: build the program first: rt ci, or ./rvd show FILE"; exit 1; }
-work=$(mktemp -d) || exit 1
-trap 'rm -rf "$work"' EXIT
+. "$(dirname "$0")/program.sh"
 file=${1-}
 if [ -z "$file" ]; then
   file=$work/sample.elf

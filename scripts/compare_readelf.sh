@@ -3,15 +3,10 @@
 # programs of our own, compiled for rv32i with gcc and clang, as far as these are installed.
 # Run it after `rt ci` has built the program. Debian has what it wants in the packages
 # gcc-riscv64-unknown-elf, binutils-riscv64-unknown-elf, clang and lld.
-set -u
-top=$(cd "$(dirname "$0")/.." && pwd) || exit 1
-program=$top/crates/rvd_main/out/rvd_main
-[ -x "$program" ] || { echo "compare_readelf: build the program first: rt ci, or ./rvd show FILE"; exit 1; }
+. "$(dirname "$0")/program.sh"
 readelf=$(command -v riscv64-unknown-elf-readelf || command -v readelf || command -v llvm-readelf)
 [ -n "$readelf" ] || { echo "compare_readelf: skipped, no readelf"; exit 0; }
-command -v python3 >/dev/null || { echo "compare_readelf: skipped, no python3"; exit 0; }
-work=$(mktemp -d) || exit 1
-trap 'rm -rf "$work"' EXIT
+needs python3
 
 cat > "$work/start.c" <<'END'
 static int zeros[300];

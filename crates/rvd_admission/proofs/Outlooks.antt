@@ -5,6 +5,7 @@ use Rattle.std.proofs.lemmas.Bool.Decides.{nat_tests}
 use Rattle.std.proofs.lemmas.List.{length-append}
 use Rattle.std.proofs.lemmas.List.Filters.{length-filter_both}
 use Rattle.std.proofs.lemmas.List.Sums.{length-filter, sum_by-cons}
+use Rattle.std.proofs.Math.Bool.{and-false}
 use Rattle.rvd_fact.specs.declared.cells.Change.{Change}
 use Rattle.rvd_fact.specs.Program.{Program}
 use Rattle.rvd_ask.specs.declared.asks.Analyzer.{Analyzer}
@@ -25,14 +26,11 @@ use Rattle.rvd_engine.proofs.Emptiness.{empty-with_all, never}
 use Rattle.rvd_admission.specs.Looks.{after_commit, after_rollback, live_after_end, live_after_end_in, stands}
 
 -- ---- tests of several parts
-off : (a : Bool) → (a && false) ≡ false
-off true = refl
-off false = refl
 
 busy : (o q t w b : Bool) → (o && (q && t)) ≡ false → (o && ((w && (b && q)) && t)) ≡ false
 busy false q t w b h = refl
 busy true false t w b h = ap (λ x. x && t) (never w b)
-busy true true false w b h = off (w && (b && true))
+busy true true false w b h = and-false (w && (b && true))
 busy true true true w b h = absurd (true≢false h)
 
 quiet : (o q t w b : Bool) → (o && (q && t)) ≡ true → (o && ((w && (b && q)) && t)) ≡ (w && b)
@@ -237,7 +235,7 @@ on_quiet s a x whole still =
 pub on_busy : (s : State) (a : Analyzer) (x : Step) → is_quiet s ≡ false → settled_step (stepped (turned_on s a) x) ≡ None
 on_busy s a x still =
     ap (λ (b : Bool). settled_if (s.whole && b) (length (s.steps ++ x ∷ []))) (gained_busy s (candidates (work s) a) (candidates (base s) a) still)
-    ∙ ap (λ (b : Bool). settled_if b (length (s.steps ++ x ∷ []))) (off s.whole)
+    ∙ ap (λ (b : Bool). settled_if b (length (s.steps ++ x ∷ []))) (and-false s.whole)
 
 pub on_partial : (s : State) (a : Analyzer) (x : Step) → s.whole ≡ false → settled_step (stepped (turned_on s a) x) ≡ None
 on_partial s a x partial =
@@ -267,7 +265,7 @@ stands_not false d o q t h = refl
 stands_not true false o q t h = refl
 stands_not true true false q t h = refl
 stands_not true true true q true h = absurd (true≢false h)
-stands_not true true true q false h = off q
+stands_not true true true q false h = and-false q
 
 pub off_stands : (s : State) (a : Analyzer) (x : Step) → stands s ≡ true → settled_step (stepped (turned_off s a) x) ≡ settled_if (length (without_analyzer a s.queue) == 0) (length s.steps + 1)
 off_stands s a x here =
@@ -287,7 +285,7 @@ close_none_live s actor open_one none =
 pub close_others_live : (s : State) (actor : ℕ) → is_open s.current ≡ true → (lives_of_in actor s.current ≡ lives_in s.current → ⊥) → settled_step (closed s actor) ≡ None
 close_others_live s actor open_one other =
     close_look s actor false open_one
-    (ap (λ (b : Bool). nat_lt 0 (lives_of_in actor s.current) && b) (ne_eqb (lives_of_in actor s.current) (lives_in s.current) other) ∙ off (nat_lt 0 (lives_of_in actor s.current)))
+    (ap (λ (b : Bool). nat_lt 0 (lives_of_in actor s.current) && b) (ne_eqb (lives_of_in actor s.current) (lives_in s.current) other) ∙ and-false (nat_lt 0 (lives_of_in actor s.current)))
 
 pub close_last_live : (s : State) (actor : ℕ) → is_open s.current ≡ true → 0 < lives_of_in actor s.current → lives_of_in actor s.current ≡ lives_in s.current → settled_step (closed s actor) ≡ after_rollback s
 close_last_live s actor open_one some same =

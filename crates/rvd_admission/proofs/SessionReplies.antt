@@ -4,6 +4,7 @@ use Rattle.std.proofs.Common.{◌≡◌, ℕ, Bool, true, false, cond, ◌&&◌,
 use Rattle.std.proofs.lemmas.Bool.{false≢true, true≢false}
 use Rattle.std.proofs.lemmas.Bool.Decides.{nat_tests}
 use Rattle.std.proofs.lemmas.List.{length-append}
+use Rattle.std.proofs.lemmas.Option.{none-some, same_Some}
 use Rattle.rvd_event.specs.declared.events.Event.{Event}
 use Rattle.rvd_event.specs.declared.events.Event.TheVariants as event
 use Rattle.rvd_event.specs.declared.replies.Reply.{Reply}
@@ -13,7 +14,6 @@ use Rattle.rvd_machine.specs.Ranges.{is_reply}
 use Rattle.rvd_machine.specs.Replies.{IsReply, answered, is_not_yet, refused, reply_to, take_reply, takes_none}
 use Rattle.rvd_machine.specs.State.{State, Job, is_open, work}
 use Rattle.rvd_machine.specs.Steps.{is_refused, moved, verdicts_in}
-use Rattle.rvd_machine.proofs.Replied.{none-some, some_is}
 use Rattle.rvd_engine.specs.Admitted.{IsAnswer}
 use Rattle.rvd_engine.specs.Performed.{Performed, is_plain, is_session_step}
 use Rattle.rvd_engine.specs.Settling.{settled_if}
@@ -36,7 +36,7 @@ session_reply s a (event.Take n) r of_session is = absurd (false≢true of_sessi
 session_reply s a (event.Offer t) r of_session is = absurd (false≢true of_session)
 
 pub one_reply : (s : State) (a : ℕ) (e : Event) (r q : Reply) → is_sessions e ≡ true → reply_to s a e ≡ Some r → IsReply s a e q → r ≡ q
-one_reply s a e r q of_session said is = some_is r q (sym said ∙ session_reply s a e q of_session is)
+one_reply s a e r q of_session said is = same_Some r q (sym said ∙ session_reply s a e q of_session is)
 
 -- a wait that goes on has none
 pub not_true : (x : Bool) → not x ≡ false → x ≡ true
@@ -96,7 +96,7 @@ take_answer s a n r noted is = by (takes_none s n) refl is.reply
     by : (b : Bool) → takes_none s n ≡ b → cond b None (Some (reply.Job s.next_ticket (take n s.queue))) ≡ Some r → IsTake s n r noted
     by true none said = absurd (none-some r said)
     by false some said =
-        let job : r ≡ reply.Job s.next_ticket (take n s.queue) = sym (some_is (reply.Job s.next_ticket (take n s.queue)) r said) in
+        let job : r ≡ reply.Job s.next_ticket (take n s.queue) = sym (same_Some (reply.Job s.next_ticket (take n s.queue)) r said) in
         record {
           given = some;
           job = job;

@@ -2,7 +2,7 @@
 -- `starts_come`. And flow has no change exactly where no start decides: `none_decides` and `no_change`.
 use Rattle.std.proofs.Common.{◌≡◌, ℕ, ◌<◌, true, false, cond, not, ◌&&◌, ◌||◌, List, [], ◌∷◌, ◌++◌, Option, Some, None, refl, sym, ap, ◌∙◌, inl, inr, arith}
 use Rattle.std.specs.Prelude.{filter_map, find, ◌==◌}
-use Rattle.std.specs.List.{list_any}
+use Rattle.std.specs.List.{list_any, cons_option}
 use Rattle.std.specs.Option.{option_map}
 use Rattle.std.proofs.lemmas.Bool.{and_from, cases_Bool, cond_both, eq-eqb, false≢true, or_from, or_left, or_parts, or_right}
 use Rattle.rvd_fact.specs.declared.keys.Key.{Key}
@@ -35,19 +35,10 @@ wider : (e : Key × Cell) (es : Program) (x : ℕ) (ts : List ℕ) → AreTarget
 wider e es x [] h = tt
 wider e es x (t ∷ ts) h = (or_right (e.0.at == x && goes_to t e.1.value) (is_from es t x) h.0, wider e es x ts h.1)
 
-add_ref : Option (ℕ × RefClass × ℕ) → List (ℕ × RefClass × ℕ) → List (ℕ × RefClass × ℕ)
-add_ref None rs = rs
-add_ref (Some r) rs = r ∷ rs
-
-add_start : Option ℕ → List ℕ → List ℕ
-add_start None ts = ts
-add_start (Some t) ts = t ∷ ts
-
 -- the target of an entry's reference, before those of others
-entry_target : (k : Key) (v : Value) (s : Program) (c : Cell) (x : ℕ) (rs : List (ℕ × RefClass × ℕ)) → c.value ≡ v → (k.at == x) ≡ true → AreTargets ((k, c) ∷ s) x (filter_map flow_target rs) → AreTargets ((k, c) ∷ s) x (filter_map flow_target (add_ref (ref_of k.sub v) rs))
-unfolding add_ref add_start
+entry_target : (k : Key) (v : Value) (s : Program) (c : Cell) (x : ℕ) (rs : List (ℕ × RefClass × ℕ)) → c.value ≡ v → (k.at == x) ≡ true → AreTargets ((k, c) ∷ s) x (filter_map flow_target rs) → AreTargets ((k, c) ∷ s) x (filter_map flow_target (cons_option (ref_of k.sub v) rs))
 entry_target k (Ref to class) s c x rs is here rest =
-    cond_both (is_flow class) (Some to) None (λ o. AreTargets ((k, c) ∷ s) x (add_start o (filter_map flow_target rs)))
+    cond_both (is_flow class) (Some to) None (λ o. AreTargets ((k, c) ∷ s) x (cons_option o (filter_map flow_target rs)))
     (λ h. (or_left (k.at == x && goes_to to c.value) (is_from s to x) (and_from (k.at == x) (goes_to to c.value) here (ap (goes_to to) is ∙ eq-eqb to to refl)), rest))
     (λ h. rest)
 entry_target k (Block len perm bytes) s c x rs is here rest = rest
@@ -62,11 +53,10 @@ entry_target k (Plain f) s c x rs is here rest = rest
 entry_target k Gone s c x rs is here rest = rest
 
 targets_come : (x : ℕ) (es : Program) → AreTargets es x (filter_map flow_target (refs_from es x))
-unfolding add_ref
 targets_come x [] = tt
 targets_come x (e ∷ es) =
     let rest = wider e es x (filter_map flow_target (refs_from es x)) (targets_come x es) in
-    cond_both (e.0.at == x) (ref_of e.0.sub e.1.value) None (λ o. AreTargets (e ∷ es) x (filter_map flow_target (add_ref o (refs_from es x))))
+    cond_both (e.0.at == x) (ref_of e.0.sub e.1.value) None (λ o. AreTargets (e ∷ es) x (filter_map flow_target (cons_option o (refs_from es x))))
     (λ here. entry_target e.0 e.1.value es e.1 x (refs_from es x) refl here rest)
     (λ h. rest)
 
@@ -90,17 +80,12 @@ starts_come S x low =
     (λ h. tt))
 
 -- ---- no change, where no start decides
-filter_cons : Option Change → List Change → List Change
-filter_cons None cs = cs
-filter_cons (Some c) cs = c ∷ cs
 
-some_code : (t : ℕ) (o : Option ℕ) (cs : List Change) → decodes o ≡ true → filter_cons (option_map (λ w. addition (unit_key t) (Code w)) o) cs ≡ [] → ⊥
-unfolding filter_cons
+some_code : (t : ℕ) (o : Option ℕ) (cs : List Change) → decodes o ≡ true → cons_option (option_map (λ w. addition (unit_key t) (Code w)) o) cs ≡ [] → ⊥
 some_code t None cs h none = absurd (false≢true h)
 some_code t (Some w) cs h none = cc
 
 some_change : (S : Program) (t : ℕ) → start_changes S t ≡ [] → ⊥
-unfolding filter_cons
 some_change S t =
     let rest = cond (word_falls (word S t) && is_ready S (next_word t)) (run S (next_word t) 255) [] in
     cond_both (decodes (word S t)) (filter_map (code_addition S) (run S t 256)) (addition (error_key t) (Bookmark bad_instruction) ∷ []) (λ cs. cs ≡ [] → ⊥)

@@ -1,7 +1,7 @@
 -- The changes of flow fit a valid program, each unit of a run in turn: `fits`.
 use Rattle.std.proofs.Common.{◌≡◌, ℕ, zero, suc, ◌+◌, ◌*◌, ◌%◌, ◌<◌, ◌≤◌, Bool, true, false, cond, ◌&&◌, ◌||◌, List, [], ◌∷◌, Option, Some, None, refl, sym, ap, ◌∙◌, subst, inl, inr, ◌⊎◌, arith}
 use Rattle.std.specs.Prelude.{filter_map, find as first_where, is_none, nat_lt, nat_le, ◌==◌}
-use Rattle.std.specs.List.{list_any}
+use Rattle.std.specs.List.{list_any, cons_option}
 use Rattle.std.specs.Option.{option_map}
 use Rattle.std.proofs.lemmas.Bool.{and_from, and_parts, both_ways, cases_Bool, cases_eq, cases_lt, cond_both, eqb-true, false≢true, le-leb, leb-true, lt-ltb}
 use Rattle.std.proofs.lemmas.Bool.Decides.{nat_tests}
@@ -193,12 +193,7 @@ all_still_open : (S : Program) (t w : ℕ) (ts : List ℕ) → IsValid S → Ope
 all_still_open S t w [] valid o others are = tt
 all_still_open S t w (u ∷ us) valid o others are = (still_open S t w valid o u others.0 are.0, all_still_open S t w us valid o others.1 are.1)
 
-filter_cons : Option Change → List Change → List Change
-filter_cons None cs = cs
-filter_cons (Some c) cs = c ∷ cs
-
-next_fits : (S : Program) (t : ℕ) (ts : List ℕ) (o : Option ℕ) → IsValid S → AreOpen S (t ∷ ts) → AreOthers t ts → word S t ≡ o → ((T : Program) → IsValid T → AreOpen T ts → Fits T (filter_map (code_addition T) ts)) → Fits S (filter_cons (option_map (λ w. addition (unit_key t) (Code w)) o) (filter_map (code_addition S) ts))
-unfolding filter_cons
+next_fits : (S : Program) (t : ℕ) (ts : List ℕ) (o : Option ℕ) → IsValid S → AreOpen S (t ∷ ts) → AreOthers t ts → word S t ≡ o → ((T : Program) → IsValid T → AreOpen T ts → Fits T (filter_map (code_addition T) ts)) → Fits S (cons_option (option_map (λ w. addition (unit_key t) (Code w)) o) (filter_map (code_addition S) ts))
 next_fits S t ts None valid are others here rest = rest S valid are.1
 next_fits S t ts (Some w) valid are others here rest =
     let T = after S t w in
@@ -207,7 +202,6 @@ next_fits S t ts (Some w) valid are others here rest =
     (are.0.empty, later, subst (λ (f : ℕ → Option Change). Fits T (filter_map f ts)) same (rest T later (all_still_open S t w ts valid are.0 others are.1)))
 
 units_fit : (ts : List ℕ) → AreDistinct ts → (S : Program) → IsValid S → AreOpen S ts → Fits S (filter_map (code_addition S) ts)
-unfolding filter_cons
 units_fit [] distinct S valid are = tt
 units_fit (t ∷ ts) distinct S valid are = next_fits S t ts (word S t) valid are distinct.0 refl (λ T later open_there. units_fit ts distinct.1 T later open_there)
 

@@ -5,6 +5,7 @@ use Rattle.std.specs.Prelude.{is_none, filter_map, find, ◌==◌}
 use Rattle.std.specs.Option.{option_map}
 use Rattle.std.specs.Int.{from_le_bytes, w32}
 use Rattle.std.proofs.lemmas.Bool.{and_parts, cond_both}
+use Rattle.std.specs.List.{cons_option}
 use Rattle.rvd_decode.specs.Flow.{falls_through}
 use Rattle.rvd_fact.specs.declared.cells.Cell.{Cell}
 use Rattle.rvd_fact.specs.declared.cells.Change.{Change}
@@ -25,7 +26,7 @@ use Rattle.rvd_an_flow.specs.Parts.{first_asks, first_decided, place_asks}
 use Rattle.rvd_ask.proofs.FreeBytes.{free_local}
 use Rattle.rvd_ask.proofs.Plain.{cell_instruction-plain, is_instruction-plain, is_none-plain, is_present-plain}
 use Rattle.rvd_ask.proofs.Proposing.{IsLocal}
-use Rattle.rvd_ask.proofs.Told.{told-append, hold_left, hold_right, when_true, and_then, same_at, same_bytes, same_refs, same_test}
+use Rattle.rvd_ask.proofs.Told.{told-append, hold_left, hold_right, when_true, and_then, same_at, same_bytes, same_refs, same_test, or_then}
 
 -- tests that see no block's bytes
 may_hold-plain : (b t : ℕ) (v : Value) → may_hold b t (plain_value v) ≡ may_hold b t v
@@ -80,10 +81,6 @@ module _ (P S : Program) where
       and_then (openable P t) (openable S t) (decodes (word P t)) (decodes (word S t)) (openable_local t (hold_left P S (openable_asks P t) _ h)) (λ opened.
       ap decodes (word_local t _ (when_true P S (openable P t) (next_asks t n) opened (hold_right P S (openable_asks P t) _ h))))
 
-  filter_cons : Option Change → List Change → List Change
-  filter_cons None cs = cs
-  filter_cons (Some c) cs = c ∷ cs
-
   none_either : (R : Program) (b : Bool) → filter_map (code_addition R) (cond b [] []) ≡ []
   none_either R b = cond_both b [] [] (λ ts. filter_map (code_addition R) ts ≡ []) (λ h. refl) (λ h. refl)
 
@@ -92,11 +89,10 @@ module _ (P S : Program) where
   choose_units false b ts us e same = ap (λ c. filter_map (code_addition S) (cond c us [])) e
 
   units_local : (n t : ℕ) → word P t ≡ word S t → Hold S (told P (run_asks P t n)) → filter_map (code_addition P) (run P t (suc n)) ≡ filter_map (code_addition S) (run S t (suc n))
-  unfolding filter_cons
   units_local zero t e h =
       let none : filter_map (code_addition P) (cond (word_falls (word P t) && is_ready P (next_word t)) [] []) ≡ filter_map (code_addition S) (cond (word_falls (word S t) && is_ready S (next_word t)) [] []) =
       none_either P (word_falls (word P t) && is_ready P (next_word t)) ∙ sym (none_either S (word_falls (word S t) && is_ready S (next_word t))) in
-      λ i. filter_cons (option_map (λ w. addition (unit_key t) (Code w)) (e i)) (none i)
+      λ i. cons_option (option_map (λ w. addition (unit_key t) (Code w)) (e i)) (none i)
   units_local (suc n) t e h =
       let next = next_word t in
       let asked = openable_asks P next ++ only_if (openable P next) (next_asks next n) in
@@ -109,12 +105,9 @@ module _ (P S : Program) where
       let ready = and_parts (openable P next) (decodes (word P next)) parts.1 in
       let inner = when_true P S (openable P next) (next_asks next n) ready.0 (hold_right P S (openable_asks P next) _ (when_true P S falls asked parts.0 h)) in
       units_local n next (word_local next _ inner) (when_true P S (decodes (word P next)) (run_asks P next n) ready.1 inner.1)) in
-      λ i. filter_cons (option_map (λ w. addition (unit_key t) (Code w)) (e i)) (rest i)
+      λ i. cons_option (option_map (λ w. addition (unit_key t) (Code w)) (e i)) (rest i)
 
   -- ---- a start
-  or_then : (a b x y : Bool) → a ≡ b → (a ≡ false → x ≡ y) → (a || x) ≡ (b || y)
-  or_then true b x y e h = ap (λ c. c || y) e
-  or_then false b x y e h = ap (λ z. false || z) (h refl) ∙ ap (λ c. c || y) e
 
   abbrev opened_asks : ℕ → List Ask
   opened_asks t = ask.Bytes t 4 ∷ only_if (not (decodes (word P t))) (ask.Cell (error_key t) ∷ [])

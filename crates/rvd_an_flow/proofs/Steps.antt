@@ -3,6 +3,8 @@ use Rattle.std.proofs.Common.{◌≡◌, ℕ, zero, suc, ◌-◌, Bool, true, fa
 use Rattle.std.specs.Prelude.{is_none, is_some, filter_map, find, nat_lt, ◌==◌}
 use Rattle.std.specs.Option.{option_map}
 use Rattle.std.proofs.lemmas.Bool.{and_from, and_parts, eqb-true, false≢true}
+use Rattle.std.specs.List.{cons_option}
+use Rattle.std.proofs.lemmas.Option.{none-some}
 use Rattle.rvd_decode.specs.Table.{instruction}
 use Rattle.rvd_decode.specs.Flow.{falls_through}
 use Rattle.rvd_fact.specs.declared.cells.Change.{Change}
@@ -28,10 +30,6 @@ four a (Some list) h = eqb-true (length list) 4 (and_parts (nat_lt 0 4) (length 
 pub four_bytes : (S : Program) (a : ℕ) → IfSome (bytes S a 4) (λ list. length list ≡ 4)
 four_bytes S a = four a (bytes S a 4) (has_form-ans S (ask.Bytes a 4))
 
-filter_cons : Option Change → List Change → List Change
-filter_cons None cs = cs
-filter_cons (Some c) cs = c ∷ cs
-
 -- ---- a run
 module _ (S : Program) where
   -- what is asked of the next word, and further where it is an instruction's
@@ -42,21 +40,12 @@ module _ (S : Program) where
   stopped t false b o qs e h = refl
   stopped t true false o qs e h = refl
   stopped t true true None qs e h = absurd (false≢true e)
-  stopped t true true (Some w) qs e h = absurd (none h)
-    where
-      none : {w : ℕ} → Some w ≡ None → ⊥
-      none h = cc
+  stopped t true true (Some w) qs e h = absurd (none-some w (sym h))
 
   passed : (t : ℕ) (a b : Bool) (o : Option ℕ) (w : ℕ) (qs : List Ask) → cond (a && b) o None ≡ Some w → asks_at t a b qs ≡ (openable_asks S t ++ only_if a (ask.Bytes t 4 ∷ [])) ++ qs
   passed t true true o w qs h = sym (append-assoc (openable_asks S t) (ask.Bytes t 4 ∷ []) qs)
-  passed t true false o w qs h = absurd (none h)
-    where
-      none : {w : ℕ} → None ≡ Some w → ⊥
-      none h = cc
-  passed t false b o w qs h = absurd (none h)
-    where
-      none : {w : ℕ} → None ≡ Some w → ⊥
-      none h = cc
+  passed t true false o w qs h = absurd (none-some w h)
+  passed t false b o w qs h = absurd (none-some w h)
 
   -- a run that may go on, but doesn't
   pub behind-end : (t w n : ℕ) → word S t ≡ Some w → (n ≡ 0 → ⊥) → falls_through (instruction w) ≡ true → ready_word S (next_word t) ≡ None → behind_asks S t n ≡ ready_asks S (next_word t)
@@ -79,19 +68,12 @@ module _ (S : Program) where
 
   -- the same, of the units
   one_unit : (t w : ℕ) (b : Bool) (ts : List ℕ) → word S t ≡ Some w → filter_map (code_addition S) (t ∷ cond b ts []) ≡ addition (unit_key t) (Code w) ∷ filter_map (code_addition S) (cond b ts [])
-  unfolding filter_cons
-  one_unit t w b ts here = λ i. filter_cons (option_map (λ v. addition (unit_key t) (Code v)) (here i)) (filter_map (code_addition S) (cond b ts []))
+  one_unit t w b ts here = λ i. cons_option (option_map (λ v. addition (unit_key t) (Code v)) (here i)) (filter_map (code_addition S) (cond b ts []))
 
   is_going : (a b : Bool) (o : Option ℕ) (v : ℕ) → cond (a && b) o None ≡ Some v → (a && b) ≡ true
   is_going true true o v h = refl
-  is_going true false o v h = absurd (none h)
-    where
-      none : {w : ℕ} → None ≡ Some w → ⊥
-      none h = cc
-  is_going false b o v h = absurd (none h)
-    where
-      none : {w : ℕ} → None ≡ Some w → ⊥
-      none h = cc
+  is_going true false o v h = absurd (none-some v h)
+  is_going false b o v h = absurd (none-some v h)
 
   pub units-more : (t w v n : ℕ) → word S t ≡ Some w → (n ≡ 0 → ⊥) → falls_through (instruction w) ≡ true → ready_word S (next_word t) ≡ Some v → units S t n ≡ addition (unit_key t) (Code w) ∷ units S (next_word t) (n - 1)
   unfolding units

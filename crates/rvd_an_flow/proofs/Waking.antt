@@ -2,7 +2,7 @@
 -- it. `law` says it whole.
 use Rattle.std.proofs.Common.{◌≡◌, ℕ, zero, suc, ◌+◌, ◌-◌, ◌%◌, ◌<◌, ◌≤◌, Bool, true, false, cond, ◌&&◌, ◌||◌, List, [], ◌∷◌, ◌++◌, Option, Some, None, refl, sym, ap, ◌∙◌, inl, inr, arith}
 use Rattle.std.specs.Prelude.{filter_map, find as first_where, is_none, nat_lt, nat_le, ◌==◌}
-use Rattle.std.specs.List.{list_any}
+use Rattle.std.specs.List.{list_any, cons_option}
 use Rattle.std.specs.Option.{option_map, option_and_then}
 use Rattle.std.specs.Int.{from_le_bytes, w32}
 use Rattle.std.proofs.lemmas.Bool.{and_from, and_parts, both_ways, cases_Bool, cases_eq, cond_both, eq-eqb, eqb-true, false_from_ne_true, false≢true, leb-true, lt-ltb, ltb-true, or_cases, or_from, or_left, or_parts, or_right, true≢false}
@@ -102,10 +102,6 @@ asleep_unit T c x kind.Comment h e = absurd (omega (arith, e))
 asleep_unit T c x kind.Bookmark h e = absurd (omega (arith, e))
 asleep_unit T c x kind.Ref h e = absurd (omega (arith, e))
 
-filter_cons : Option (ℕ × RefClass × ℕ) → List (ℕ × RefClass × ℕ) → List (ℕ × RefClass × ℕ)
-filter_cons None rs = rs
-filter_cons (Some r) rs = r ∷ rs
-
 abbrev ref_at : ℕ → Key × Cell → Option (ℕ × RefClass × ℕ)
 ref_at x e = cond (e.0.at == x) (ref_of e.0.sub e.1.value) None
 
@@ -143,19 +139,17 @@ module _ (S : Program) (c : Change) (x : ℕ) (l : Leads S c) (asleep : wakes_fl
       both_ways (wakes_flow c.key.kind T c x) asleep (ap (λ (q : Key). wakes_flow q.kind T c x) e ∙ or_left (x == c.key.at) _ (eq-eqb x c.key.at here)))
 
   -- the references from x stay
-  over_refs : (o : Option Cell) → ((d : Cell) → o ≡ Some d → suits c.key d ≡ true) → PassesOver (λ (e : Key × Cell) (rs : List (ℕ × RefClass × ℕ)). filter_cons (ref_at x e) rs) c.key o
-  unfolding filter_cons
+  over_refs : (o : Option Cell) → ((d : Cell) → o ≡ Some d → suits c.key d ≡ true) → PassesOver (λ (e : Key × Cell) (rs : List (ℕ × RefClass × ℕ)). cons_option (ref_at x e) rs) c.key o
   over_refs None fits = tt
-  over_refs (Some d) fits = λ rs. ap (λ o. filter_cons o rs) (cond_both (c.key.at == x) (ref_of c.key.sub d.value) None (λ o. o ≡ None)
+  over_refs (Some d) fits = λ rs. ap (λ o. cons_option o rs) (cond_both (c.key.at == x) (ref_of c.key.sub d.value) None (λ o. o ≡ None)
       (λ here. no_ref c.key.sub c.key.kind d.value (suits-is_of c.key d (fits d refl)) (λ e. both_ways (x == c.key.at) (asleep_ref T c x c.key.kind asleep e) (eq-eqb x c.key.at (sym (eqb-true c.key.at x here)))))
       (λ h. refl))
 
-  by_steps : (e : Key × Cell) (es : Program) → refs_from (e ∷ es) x ≡ filter_cons (ref_at x e) (refs_from es x)
-  unfolding filter_cons
+  by_steps : (e : Key × Cell) (es : Program) → refs_from (e ∷ es) x ≡ cons_option (ref_at x e) (refs_from es x)
   by_steps e es = refl
 
   same_refs : refs_from T x ≡ refs_from S x
-  same_refs = scan-placed (λ es. refs_from es x) (λ (e : Key × Cell) (rs : List (ℕ × RefClass × ℕ)). filter_cons (ref_at x e) rs) by_steps c.key S c.after l.before.in_order (over_refs (cell_at S c.key) suits_before) (over_refs c.after suits_after)
+  same_refs = scan-placed (λ es. refs_from es x) (λ (e : Key × Cell) (rs : List (ℕ × RefClass × ℕ)). cons_option (ref_at x e) rs) by_steps c.key S c.after l.before.in_order (over_refs (cell_at S c.key) suits_before) (over_refs c.after suits_after)
 
   same_starts : starts T x ≡ starts S x
   same_starts = λ i.

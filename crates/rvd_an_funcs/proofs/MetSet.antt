@@ -8,6 +8,7 @@ use Rattle.std.specs.BTreeMap.{is_at}
 use Rattle.std.specs.BTreeSet.{insert_key}
 use Rattle.std.proofs.lemmas.Bool.Decides.{nat_tests}
 use Rattle.std.proofs.lemmas.Map.Lookups.{exact_unsigned}
+use Rattle.std.proofs.Math.Bool.{or_self_left}
 use Rattle.rvd_ask.specs.Reach.{has}
 
 swap : (a b c : Bool) → (a || (b || c)) ≡ (b || (a || c))
@@ -16,15 +17,11 @@ swap true false c = refl
 swap false true c = refl
 swap false false c = refl
 
-twice : (a c : Bool) → (a || c) ≡ (a || (a || c))
-twice true c = refl
-twice false c = refl
-
 pub has-insert_key : (z w : ℕ) (ks : List ℕ) → has z (insert_key nat_cmp ks w) ≡ (w == z || has z ks)
 has-insert_key z w [] = refl
 has-insert_key z w (x ∷ xs) = elim (nat_cmp w x) as (λ r. nat_cmp w x ≡ r → has z (match_ordering r (w ∷ x ∷ xs) (x ∷ xs) (x ∷ insert_key nat_cmp xs w)) ≡ (w == z || (x == z || has z xs))) [
   | Less ↦ λ is. refl
-  | Equal ↦ λ is. twice (x == z) (has z xs) ∙ ap (λ (y : ℕ). y == z || (x == z || has z xs)) (sym (exact_unsigned w x is))
+  | Equal ↦ λ is. sym (or_self_left (x == z) (has z xs)) ∙ ap (λ (y : ℕ). y == z || (x == z || has z xs)) (sym (exact_unsigned w x is))
   | Greater ↦ λ is. ap (λ b. x == z || b) (has-insert_key z w xs) ∙ swap (x == z) (w == z) (has z xs)
 ] refl
 

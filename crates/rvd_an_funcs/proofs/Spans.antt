@@ -8,7 +8,8 @@ use Rattle.std.proofs.lemmas.Bool.Decides.{nat_tests}
 use Rattle.rvd_fact.specs.Ranges.{has_address, AreRangesFrom}
 use Rattle.rvd_ask.specs.Reach.{has, spans, with_word}
 use Rattle.rvd_ask.proofs.Growing.{any_from}
-use Rattle.rvd_an_funcs.proofs.Rising.{first_of, Rises}
+use Rattle.rvd_an_funcs.proofs.Rising.{Rises}
+use Rattle.rvd_an_funcs.proofs.Lists.{has_first}
 
 -- whether an address is one of the four bytes of a word
 abbrev pub in_word : ℕ → ℕ → Bool
@@ -61,4 +62,4 @@ ranges_with low z (r ∷ rs) from end t =
 -- they are a set of ranges
 pub spans_ranges : (low : ℕ) (zs : List ℕ) → Rises 4 low zs → ((z : ℕ) → has z zs ≡ true → z + 4 ≤ 2 ^ 32) → AreRangesFrom low (spans zs)
 spans_ranges low [] r ends = tt
-spans_ranges low (z ∷ zs) r ends = ranges_with low z (spans zs) r.0 (ends z (first_of z zs)) (spans_ranges (z + 4) zs r.1 (λ y h. ends y (or_right (z == y) _ h)))
+spans_ranges low (z ∷ zs) r ends = ranges_with low z (spans zs) r.0 (ends z (has_first z zs)) (spans_ranges (z + 4) zs r.1 (λ y h. ends y (or_right (z == y) _ h)))

@@ -23,7 +23,7 @@ use Rattle.rvd_ask.specs.Wake.{item}
 use Rattle.rvd_ask.proofs.FreeBytes.{free_local}
 use Rattle.rvd_ask.proofs.Plain.{is_none-plain}
 use Rattle.rvd_ask.proofs.Proposing.{IsLocal}
-use Rattle.rvd_ask.proofs.Told.{and_then, hold_left, hold_right, same_at, same_bytes, same_test, same_yes, when_true}
+use Rattle.rvd_ask.proofs.Told.{and_then, hold_left, hold_right, same_at, same_bytes, same_test, same_yes, when_true, or_then}
 use Rattle.rvd_an_strings.specs.Parts.{block_room, cell_room, read_asks, room_asks, text_asks, value_room}
 use Rattle.rvd_an_strings.proofs.Rooms.{byte_stands, length-tail}
 use Rattle.rvd_an_strings.proofs.Strings.{no_room, string_is}
@@ -80,10 +80,6 @@ window_stands : (S : Program) (valid : IsValid S) (t : ℕ) → Stand S t (take 
 window_stands S valid t j low =
     let size = length-take 256 (tail S t) in
     byte_stands S valid t j (omega (arith, size, low)) ∙ ap (λ b. Some (b ∷ [])) (sym (get_or-take 256 (tail S t) j 0 (omega (arith, size, low))))
-
-or_then : (a b x y : Bool) → a ≡ b → (a ≡ false → x ≡ y) → (a || x) ≡ (b || y)
-or_then true b x y e h = ap (λ c. c || y) e
-or_then false b x y e h = ap (λ z. false || z) (h refl) ∙ ap (λ c. c || y) e
 
 module _ (P S : Program) (t : ℕ) where
   read_local : Hold S (told P (read_asks P t)) → is_read_at P t ≡ is_read_at S t

@@ -1,19 +1,23 @@
 -- The order of items is total, tells all items apart, and is the derived one. Use `cases_item` to decide
 -- whether two items are one, `items_exact` and `same_item-true` to get the equation, `items_total` where std
 -- asks for a total order, and `derived_is` where code over `Ord` speaks of the derived order.
-use Rattle.std.proofs.Common.{◌≡◌, ℕ, ◌-◌, ◌/◌, true, false, [], ◌∷◌, get_or, refl, sym, ap, ◌∙◌, inl, inr, ◌⊎◌, rules}
-use Rattle.std.proofs.lemmas.Cmp.{on_total, then_total, nat_cmp_total, tied_itself}
+use Rattle.std.proofs.Common.{◌≡◌, ℕ, ◌-◌, ◌/◌, true, false, [], ◌∷◌, get_or, refl, sym, ap, ◌∙◌, inl, inr, ◌⊎◌, rules, Bool, List, filter, ◌&&◌}
+use Rattle.std.proofs.lemmas.Cmp.{on_total, then_total, nat_cmp_total, tied_itself, eq_by_cmp_equiv}
 use Rattle.std.proofs.lemmas.Map.Lookups.{exact_pairs, exact_unsigned}
 use Rattle.std.specs.Cmp.{IsTotalOrder, Equal-is}
 use Rattle.std.specs.declared.cmp.Ordering.{Ordering}
-use Rattle.std.specs.declared.cmp.Ordering.TheVariants.{Equal}
-use Rattle.std.specs.Ordering.{nat_cmp, ordering_then, is_eq}
+use Rattle.std.specs.declared.cmp.Ordering.TheVariants.{Less, Equal}
+use Rattle.std.specs.Ordering.{nat_cmp, ordering_then, is_eq, is_lt}
+use Rattle.std.proofs.lemmas.Bool.{and_from}
+use Rattle.std.proofs.lemmas.Map.Made.{is_member-filter}
+use Rattle.std.specs.List.{AllByRecursion, list_all}
 use Rattle.rvd_ask.specs.declared.asks.Analyzer.{Analyzer}
 use Rattle.rvd_ask.specs.declared.asks.Analyzer.TheVariants.{Flow, Refs, Funcs, Body, Strings}
 use Rattle.rvd_ask.specs.declared.asks.Item.{Item}
 use Rattle.rvd_ask.specs.Order.{priority, item_cmp, same_item}
 use Rattle.rvd_ask.specs.contracts.asks.ItemOrd.TheImpl.{cmp-value}
 use Rattle.rvd_ask.specs.contracts.asks.AnalyzerOrd.TheImpl as analyzer_impl
+use Rattle.rvd_ask.specs.Unsettled.{comes_before, has_item}
 
 -- the analyzer of a priority
 abbrev analyzer_at : ℕ → Analyzer
@@ -71,3 +75,11 @@ derived_same a b = ap (λ (o : Ordering). ordering_then o (nat_cmp a.at b.at)) (
 
 pub derived_is : cmp-value.it ≡ item_cmp
 derived_is = λ i a b. derived_same a b i
+
+-- ---- lists of items
+pub has_item-filter : (i : Item) (test : Item → Bool) (items : List Item) → has_item i (filter test items) ≡ (has_item i items && test i)
+has_item-filter i test items = is_member-filter (eq_by_cmp_equiv items_total) test i (λ j h. ap test (same_item-true i j h)) items
+
+pub all_before : (i : Item) (items : List Item) → AllByRecursion (λ j. item_cmp i j ≡ Less) items → list_all (comes_before i) items ≡ true
+all_before i [] h = refl
+all_before i (j ∷ items) h = and_from (comes_before i j) (list_all (comes_before i) items) (ap is_lt h.0) (all_before i items h.1)

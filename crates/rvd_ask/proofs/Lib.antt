@@ -1,4 +1,5 @@
 pub mod ItemOrder
+pub mod Pairs
 mod SmallFile
 mod RuleRows
 mod WakeRows

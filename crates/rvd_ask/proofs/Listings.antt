@@ -10,13 +10,14 @@ use Rattle.std.specs.Ordering.{is_lt, is_eq, nat_cmp, ordering_then, ordering_re
 use Rattle.std.proofs.lemmas.Bool.{false≢true, and_parts, and_from, or_cases, or_left, false_from_ne_true, lt-ltb}
 use Rattle.std.proofs.lemmas.Cmp.{nat_cmp_total, tied_itself}
 use Rattle.std.proofs.lemmas.List.Folds.{list_all-append, list_any-append}
+use Rattle.std.proofs.Math.Bool.{and-false}
 use Rattle.rvd_ask.specs.declared.asks.Analyzer.{Analyzer}
 use Rattle.rvd_ask.specs.declared.asks.Analyzer.TheVariants.{Flow, Refs, Funcs, Body, Strings}
 use Rattle.rvd_ask.specs.declared.asks.Item.{Item}
 use Rattle.rvd_ask.specs.Order.{item_cmp, priority, same_item}
 use Rattle.rvd_ask.specs.Wake.{item}
 use Rattle.rvd_ask.specs.Unsettled.{analyzers, are_in_order, comes_before, has_item, items_below, same_analyzer, IsOnlyListing, ListsJust}
-use Rattle.rvd_ask.proofs.ItemOrder.{cases_item, items_total, same_item-true, same_item_itself}
+use Rattle.rvd_ask.proofs.ItemOrder.{cases_item, items_total, same_item-true, same_item_itself, has_item-filter}
 
 -- ---- two lists in order with the same members are one
 opposed : (o : Ordering) → is_lt o ≡ true → is_lt (ordering_reverse o) ≡ true → ⊥
@@ -92,33 +93,6 @@ in_order-filter test (i ∷ items) h =
       | false ↦ in_order-filter test items parts.1
     ]
 
-and_true : (b : Bool) → (b && true) ≡ b
-and_true true = refl
-and_true false = refl
-
-and_false : (b : Bool) → (b && false) ≡ false
-and_false true = refl
-and_false false = refl
-
-or_false : (b : Bool) → (b || false) ≡ b
-or_false true = refl
-or_false false = refl
-
-has_item-filter : (i : Item) (test : Item → Bool) (items : List Item) → has_item i (filter test items) ≡ (has_item i items && test i)
-has_item-filter i test [] = refl
-has_item-filter i test (k ∷ items) = elim (cases_item i k) [
-  | inl i_is ↦ elim (test i) as (λ b. test i ≡ b → has_item i (filter test (k ∷ items)) ≡ (has_item i (k ∷ items) && b)) [
-    | true ↦ λ e. ap (λ b. has_item i (cond b (k ∷ filter test items) (filter test items))) (ap test (sym i_is) ∙ e) ∙ ap (λ m. has_item i (m ∷ filter test items)) (sym i_is) ∙ first_is i (filter test items) ∙ sym (and_true (has_item i (k ∷ items)) ∙ (ap (λ m. has_item i (m ∷ items)) (sym i_is) ∙ first_is i items))
-    | false ↦ λ e. ap (λ b. has_item i (cond b (k ∷ filter test items) (filter test items))) (ap test (sym i_is) ∙ e) ∙ has_item-filter i test items ∙ ap (λ b. has_item i items && b) e ∙ and_false (has_item i items) ∙ sym (and_false (has_item i (k ∷ items)))
-  ] refl
-  | inr other ↦
-      let rest : (has_item i items && test i) ≡ (has_item i (k ∷ items) && test i) = ap (λ b. b && test i) (sym (behind i k items other)) in
-      elim (test k) as (λ b. has_item i (cond b (k ∷ filter test items) (filter test items)) ≡ (has_item i (k ∷ items) && test i)) [
-        | true ↦ behind i k (filter test items) other ∙ has_item-filter i test items ∙ rest
-        | false ↦ has_item-filter i test items ∙ rest
-      ]
-]
-
 -- ---- the items of all analyzers below an address
 lt_is : (x y : ℕ) → x < y → nat_cmp x y ≡ Less
 lt_is x y less = ap (λ b. cond b Less (cond (x == y) Equal Greater)) (lt-ltb x y less)
@@ -191,7 +165,7 @@ factored true p q = refl
 factored false p q = refl
 
 has_item-block : (b a : Analyzer) (z k n : ℕ) → has_item (item b z) (map (item a) (range_with_len k n)) ≡ (same_analyzer b a && (nat_le k z && nat_lt z (k + n)))
-has_item-block b a z k zero = sym (ap (λ t. same_analyzer b a && t) (none_between z k) ∙ and_false (same_analyzer b a))
+has_item-block b a z k zero = sym (ap (λ t. same_analyzer b a && t) (none_between z k) ∙ and-false (same_analyzer b a))
 has_item-block b a z k (suc n) =
     (λ i. same_is b a z k i || has_item-block b a z (k + 1) n i)
     ∙ factored (same_analyzer b a) (z == k) (nat_le (k + 1) z && nat_lt z (k + 1 + n))

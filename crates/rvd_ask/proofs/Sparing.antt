@@ -1,7 +1,7 @@
 -- The rules spare protected cells: each change finds the cell that it says, which isn't protected, and sets an analyzer's.
 use Rattle.std.proofs.Common.{◌≡◌, ℕ, zero, suc, Bool, true, false, cond, not, ◌&&◌, ◌||◌, List, [], ◌∷◌, ◌++◌, Option, Some, None, refl, sym, ap, ◌∙◌}
 use Rattle.std.specs.Prelude.{find, filter_map, is_none, is_some}
-use Rattle.std.specs.List.{list_all}
+use Rattle.std.specs.List.{list_all, cons_option}
 use Rattle.std.specs.Option.{option_map, option_map_or}
 use Rattle.std.proofs.lemmas.Bool.{false≢true, and_from, and_parts, both_ways, cond_both, not-true}
 use Rattle.rvd_decode.specs.Instruction.{Instruction}
@@ -74,17 +74,11 @@ free_of_unit S t opened =
     let rest = and_parts (is_executable S t) _ (and_parts _ (is_executable S t && (is_free S t 4 && is_none (cell_at S (unit_key t)))) opened).1 in
     (and_parts (is_free S t 4) (is_none (cell_at S (unit_key t))) rest.1).1
 
-filter_cons : Option Change → List Change → List Change
-filter_cons None cs = cs
-filter_cons (Some c) cs = c ∷ cs
-
-next_found : (S : Program) (t : ℕ) (o : Option ℕ) (cs : List Change) → is_none (cell_at S (unit_key t)) ≡ true → AreFound S cs → AreFound S (filter_cons (option_map (λ w. addition (unit_key t) (Code w)) o) cs)
-unfolding filter_cons
+next_found : (S : Program) (t : ℕ) (o : Option ℕ) (cs : List Change) → is_none (cell_at S (unit_key t)) ≡ true → AreFound S cs → AreFound S (cons_option (option_map (λ w. addition (unit_key t) (Code w)) o) cs)
 next_found S t None cs free rest = rest
 next_found S t (Some w) cs free rest = (none_there (cell_at S (unit_key t)) free, refl, rest)
 
 run_found : (S : Program) (n t : ℕ) → openable S t ≡ true → AreFound S (filter_map (code_addition S) (run S t n))
-unfolding filter_cons
 run_found S zero t opened = tt
 run_found S (suc n) t opened =
     let goes_on = word_falls (word S t) && is_ready S (next_word t) in

@@ -2,7 +2,7 @@
 -- `same_asks` for reads whose asks are a list; `hold_left`, `hold_right` and `when_true` to take reads apart that hold of
 -- another program; and `same_at`, `same_cell`, `same_yes`, `same_bytes`, `same_refs` and `same_test` for what that program
 -- then answers.
-use Rattle.std.proofs.Common.{◌≡◌, ℕ, ◌+◌, ◌-◌, ◌≤◌, Bool, true, false, ◌&&◌, List, [], ◌∷◌, ◌++◌, length, map, take, drop, Option, Some, None, refl, sym, ap, ◌∙◌, subst, arith}
+use Rattle.std.proofs.Common.{◌≡◌, ℕ, ◌+◌, ◌-◌, ◌≤◌, Bool, true, false, ◌&&◌, List, [], ◌∷◌, ◌++◌, length, map, take, drop, Option, Some, None, refl, sym, ap, ◌∙◌, subst, arith, ◌||◌}
 use Rattle.std.specs.Prelude.{Contains, find, nat_lt, nat_le, ◌==◌}
 use Rattle.std.specs.Option.{option_and_then}
 use Rattle.std.proofs.lemmas.Bool.{and_from, and_parts, cond_both, eq-eqb, leb-true}
@@ -101,6 +101,10 @@ pub when_true : (P S : Program) (a : Bool) (qs : List Ask) → a ≡ true → Ho
 when_true P S a qs e h = subst (λ b. Hold S (told P (only_if b qs))) e h
 
 -- a second test counts only where the first passed
+pub or_then : (a b x y : Bool) → a ≡ b → (a ≡ false → x ≡ y) → (a || x) ≡ (b || y)
+or_then true b x y e h = ap (λ c. c || y) e
+or_then false b x y e h = ap (λ z. false || z) (h refl) ∙ ap (λ c. c || y) e
+
 pub and_then : (a b x y : Bool) → a ≡ b → (a ≡ true → x ≡ y) → (a && x) ≡ (b && y)
 and_then true b x y e h = ap (λ c. c && x) e ∙ ap (λ z. b && z) (h refl)
 and_then false b x y e h = ap (λ c. c && y) e

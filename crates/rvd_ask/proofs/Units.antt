@@ -140,7 +140,8 @@ free_at S (suc n) t x h low high =
       | inr other ↦ free_at S n (t + 1) x parts.1 (omega (arith, low, other)) (omega (arith, high))
     ]
 
-none_passes : (p : Key × Cell → Bool) (S : Program) → option_map (λ (e : Key × Cell). e.0.at) (first_where p S) ≡ None → list_any p S ≡ false
+-- where none is the first, none passes
+pub none_passes : (p : Key × Cell → Bool) (S : Program) → option_map (λ (e : Key × Cell). e.0.at) (first_where p S) ≡ None → list_any p S ≡ false
 none_passes p [] h = refl
 none_passes p (e ∷ S) h = elim (p e) as (λ b. option_map (λ (x : Key × Cell). x.0.at) (cond b (Some e) (first_where p S)) ≡ None → (b || list_any p S) ≡ false) [
   | true ↦ λ h. absurd cc

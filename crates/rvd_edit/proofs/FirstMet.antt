@@ -1,5 +1,6 @@
 -- The lowest unit that meets a range is the first that its bytes meet, the lowest byte first: `first_met_is_first`.
 use Rattle.std.proofs.Common.{◌≡◌, ℕ, ◌+◌, ◌-◌, ◌<◌, ◌≤◌, Bool, true, cond, ◌&&◌, [], ◌∷◌, Option, Some, None, refl, sym, ap, ◌∙◌, subst, inl, inr, arith}
+use Rattle.rvd_ask.proofs.Units.{none_passes}
 use Rattle.std.specs.Prelude.{T, nat_lt, nat_le, find as first_where, MatchOption}
 use Rattle.std.specs.List.{list_any}
 use Rattle.std.specs.Option.{option_map}
@@ -22,7 +23,7 @@ use Rattle.rvd_program.proofs.Lengths.{unit_at_key}
 use Rattle.rvd_edit.specs.Laws.{FirstMetLaw, IsFirstMet}
 use Rattle.rvd_edit.specs.Spaces.{first_met, meets}
 use Rattle.rvd_edit.proofs.BytesLength.{first_passes}
-use Rattle.rvd_edit.proofs.NothingMet.{met_none, none_passes}
+use Rattle.rvd_edit.proofs.NothingMet.{met_none}
 
 -- an entry that is found is a cell of the program, and no cell that passes stands at a lower address
 first_facts : (p : Key × Cell → Bool) (S : Program) (e : Key × Cell) → IsInOrder S → first_where p S ≡ Some e → IsFirst p S e

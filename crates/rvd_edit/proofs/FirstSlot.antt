@@ -2,6 +2,7 @@
 -- `none_left` for a loop that goes from slot to slot, and `first_slot-passes` for what the slot is.
 use Rattle.std.proofs.Common.{◌≡◌, ℕ, zero, suc, ◌+◌, ◌-◌, ◌<◌, ◌≤◌, Bool, true, false, cond, Some, None, refl, sym, ap, ◌∙◌, arith, inl, inr}
 use Rattle.std.proofs.lemmas.Bool.{cases_Bool}
+use Rattle.std.proofs.lemmas.Option.{none-some}
 use Rattle.rvd_edit.specs.Slots.{first_slot}
 
 one_more : (test : ℕ → Bool) (slot n : ℕ) → first_slot test slot (suc n) ≡ cond (test slot) (Some slot) (first_slot test (slot + 1) n)
@@ -26,15 +27,12 @@ nothing_left test slot = refl
 pub none_left : (test : ℕ → Bool) (slot : ℕ) → 64 ≤ slot → first_slot test slot (64 - slot) ≡ None
 none_left test slot high = let e : 64 - slot ≡ zero = omega (arith, high) in ap (first_slot test slot) e ∙ nothing_left test slot
 
-none≢some : (slot : ℕ) → None ≡ Some slot → ⊥
-none≢some slot h = cc
-
 same_some : (a b : ℕ) → Some a ≡ Some b → a ≡ b
 same_some a b h = cc
 
 -- the slot is one of those, and passes
 pub first_slot-passes : (test : ℕ → Bool) (low n slot : ℕ) → first_slot test low n ≡ Some slot → (low ≤ slot) × (slot < low + n) × (test slot ≡ true)
-first_slot-passes test low zero slot h = absurd (none≢some slot (sym (nothing_left test low) ∙ h))
+first_slot-passes test low zero slot h = absurd (none-some slot (sym (nothing_left test low) ∙ h))
 first_slot-passes test low (suc n) slot h = elim (cases_Bool (test low)) [
   | inl passes ↦
       let is : low ≡ slot = same_some low slot (sym (one_more test low n ∙ ap (λ (b : Bool). cond b (Some low) (first_slot test (low + 1) n)) passes) ∙ h) in

@@ -5,6 +5,7 @@ use Rattle.std.specs.Option.{option_map, option_and_then}
 use Rattle.std.specs.Int.{from_le_bytes, w32}
 use Rattle.std.proofs.lemmas.Bool.{and_from, and_parts, both_ways, cases_lt, false_from_ne_true, leb-true, lt-ltb, ltb-true}
 use Rattle.std.proofs.lemmas.Bool.Decides.{nat_tests}
+use Rattle.std.proofs.lemmas.Option.{same_Some}
 use Rattle.rvd_fact.specs.declared.keys.Key.{Key}
 use Rattle.rvd_fact.specs.declared.keys.Kind.TheVariants as kind
 use Rattle.rvd_fact.specs.declared.cells.Cell.{Cell}
@@ -24,9 +25,6 @@ use Rattle.rvd_program.proofs.Spaces.{apart_placed}
 use Rattle.rvd_edit.specs.Changes.{of_analyst}
 use Rattle.rvd_edit.specs.Spaces.{first_met, meets}
 use Rattle.rvd_edit.proofs.NothingMet.{free_there, met_none}
-
-same_own : (c d : Cell) → Some c ≡ Some d → c ≡ d
-same_own c d h = cc
 
 -- what has no length surrounds nothing
 empty_fails : (x : ℕ) (k : Key) (o : Option Cell) → span block_len o ≡ 0 → Fails (surrounds x) k o
@@ -59,7 +57,7 @@ module _ (S : Program) (a len : ℕ) (perm : Perm) (valid : IsValid S) (none : f
   ]
 
   own_is : (c : Cell) → new ≡ Some c → suits (block_key a) c ≡ true
-  own_is c is = sym (ap (suits (block_key a)) (same_own (of_analyst (Block len perm None)) c is)) ∙ own
+  own_is c is = sym (ap (suits (block_key a)) (same_Some (of_analyst (Block len perm None)) c is)) ∙ own
 
   cells : (q : Key) (c : Cell) → cell_at there q ≡ Some c → suits q c ≡ true
   cells q c h = elim (cases_key q (block_key a)) [

@@ -6,6 +6,7 @@ use Rattle.std.specs.List.{list_any}
 use Rattle.std.specs.Option.{option_map, option_and_then}
 use Rattle.std.specs.Int.{from_le_bytes, w32}
 use Rattle.std.proofs.lemmas.Bool.{and_from, and_right, le-leb, lt-ltb, not_from_false, not_from_true}
+use Rattle.std.proofs.lemmas.Option.{same_Some}
 use Rattle.rvd_fact.specs.declared.keys.Key.{Key}
 use Rattle.rvd_fact.specs.declared.cells.Cell.{Cell}
 use Rattle.rvd_fact.specs.declared.values.Value.{Value}
@@ -23,9 +24,6 @@ use Rattle.rvd_edit.specs.Changes.{of_analyst}
 use Rattle.rvd_edit.specs.Spaces.{first_met}
 use Rattle.rvd_edit.proofs.NothingMet.{Home, free_there}
 use Rattle.rvd_edit.proofs.WithoutLength.{free_of_none}
-
-same_own : (c d : Cell) → Some c ≡ Some d → c ≡ d
-same_own c d h = cc
 
 module _ (S : Program) (a : ℕ) (v : Value) (valid : IsValid S) (up : 0 < unit_len v) (no_block : block_len v ≡ 0) (home : Home S a (unit_len v)) (none : first_met unit_len S a (unit_len v) ≡ None) (own : suits (unit_key a) (of_analyst v) ≡ true) (told : agrees (word S a) v ≡ true) where
   abbrev there : Program
@@ -50,7 +48,7 @@ module _ (S : Program) (a : ℕ) (v : Value) (valid : IsValid S) (up : 0 < unit_
       })
 
   own_is : (c : Cell) → Some (of_analyst v) ≡ Some c → suits (unit_key a) c ≡ true
-  own_is c is = sym (ap (suits (unit_key a)) (same_own (of_analyst v) c is)) ∙ own
+  own_is c is = sym (ap (suits (unit_key a)) (same_Some (of_analyst v) c is)) ∙ own
 
   same_word : word there a ≡ word S a
   same_word =

@@ -1,10 +1,11 @@
 -- What it says that nothing is met: no cell meets the range (`met_none`), so that what is put there has its bytes alone
 -- (`free_there`). `has_room` gives the block that a range lies in.
-use Rattle.std.proofs.Common.{◌≡◌, ℕ, ◌+◌, ◌-◌, ◌<◌, ◌≤◌, Bool, true, false, not, cond, ◌&&◌, ◌||◌, [], ◌∷◌, Option, Some, None, Ok, refl, ap, ◌∙◌, inl, inr, arith}
+use Rattle.std.proofs.Common.{◌≡◌, ℕ, ◌+◌, ◌-◌, ◌<◌, ◌≤◌, Bool, true, false, not, ◌&&◌, ◌||◌, [], ◌∷◌, Option, Some, None, Ok, refl, ap, ◌∙◌, inl, inr, arith}
+use Rattle.rvd_ask.proofs.Units.{none_passes}
 use Rattle.std.specs.Prelude.{nat_lt, nat_le, ◌==◌, find as first_where}
 use Rattle.std.specs.List.{list_any}
 use Rattle.std.specs.Option.{option_map, option_map_or}
-use Rattle.std.proofs.lemmas.Bool.{and_parts, and_left, and_right, both_ways, eq-eqb, false_from_ne_true, leb-true, not_from_false, not_from_true, or_cases}
+use Rattle.std.proofs.lemmas.Bool.{and_parts, and_left, and_right, both_ways, eq-eqb, false_from_ne_true, leb-true, not_from_false, not_from_true, or_cases, or_right}
 use Rattle.rvd_fact.specs.declared.keys.Key.{Key}
 use Rattle.rvd_fact.specs.declared.cells.Cell.{Cell}
 use Rattle.rvd_fact.specs.declared.values.Value.{Value}
@@ -23,14 +24,6 @@ pub nothing_met : (o : Option ℕ) (refusal : ℕ → EditRefusal) → met_nothi
 nothing_met None refusal e = refl
 nothing_met (Some start) refusal e = absurd cc
 
--- where none is the first, none passes
-pub none_passes : (p : Key × Cell → Bool) (S : Program) → option_map (λ (e : Key × Cell). e.0.at) (first_where p S) ≡ None → list_any p S ≡ false
-none_passes p [] h = refl
-none_passes p (e ∷ S) h = elim (p e) as (λ b. option_map (λ (x : Key × Cell). x.0.at) (cond b (Some e) (first_where p S)) ≡ None → (b || list_any p S) ≡ false) [
-  | true ↦ λ h. absurd cc
-  | false ↦ λ h. none_passes p S h
-] h
-
 module _ (len : Value → ℕ) (S : Program) (valid : IsValid S) (a n : ℕ) (none : first_met len S a n ≡ None) where
   none_meets : list_any (meets len a n) S ≡ false
   none_meets = none_passes (meets len a n) S none
@@ -48,12 +41,8 @@ module _ (len : Value → ℕ) (S : Program) (valid : IsValid S) (a n : ℕ) (no
   any_crowds [] h = h
   any_crowds (e ∷ T) h = elim (or_cases (crowds len a n e) (list_any (crowds len a n) T) h) [
     | inl here ↦ ap (λ (b : Bool). b || list_any (meets len a n) T) (crowds-meets e here)
-    | inr later ↦ either (meets len a n e) (list_any (meets len a n) T) (any_crowds T later)
+    | inr later ↦ or_right (meets len a n e) (list_any (meets len a n) T) (any_crowds T later)
   ]
-    where
-      either : (x y : Bool) → y ≡ true → (x || y) ≡ true
-      either true y h = refl
-      either false y h = h
 
   -- what stands at the address itself doesn't crowd
   own_fails : (k : Key) (o : Option Cell) → k.at ≡ a → Fails (crowds len a n) k o

@@ -3,7 +3,7 @@
 use Rattle.std.proofs.Common.{◌≡◌, ℕ, true, false, [], ◌∷◌, Option, Some, None, refl, ap, ◌∙◌}
 use Rattle.std.specs.Prelude.{nat_lt, ◌==◌}
 use Rattle.std.specs.List.{list_any}
-use Rattle.std.proofs.lemmas.Bool.{and_from, and_left, cond-false, not_from_false, or_from, ne_eqb}
+use Rattle.std.proofs.lemmas.Bool.{and_from, and_left, cond-false, not_from_false, ne_eqb}
 use Rattle.rvd_fact.specs.declared.keys.Key.{Key}
 use Rattle.rvd_fact.specs.declared.cells.Cell.{Cell}
 use Rattle.rvd_fact.specs.declared.values.Value.{Value}
@@ -14,17 +14,13 @@ use Rattle.rvd_fact.specs.Valid.{IsValid, is_address, is_of, is_whole, may_stand
 use Rattle.std.specs.Prelude.{nat_le}
 use Rattle.rvd_program.specs.Checks.{crowds, hangs_at, is_free, may_be}
 use Rattle.rvd_program.proofs.Deciding.{valid_from}
+use Rattle.rvd_program.proofs.Ranges.{none_crowds}
 
 pub suits_from : (k : Key) (c : Cell) → is_of k.kind c.value ≡ true → is_address k.at ≡ true → nat_le k.sub (top_sub k.kind) ≡ true → is_whole k.at c.value ≡ true → may_stand c.source c.value ≡ true → suits k c ≡ true
 suits_from k c of at sub whole stands =
     and_from (is_of k.kind c.value) _ of
     (and_from (is_address k.at) _ at
     (and_from (nat_le k.sub (top_sub k.kind)) _ sub (and_from (is_whole k.at c.value) _ whole stands)))
-
--- no byte is crowded
-none_crowds : (len : Value → ℕ) (a : ℕ) (T : Program) → list_any (crowds len a 0) T ≡ false
-none_crowds len a [] = refl
-none_crowds len a (e ∷ T) = or_from (crowds len a 0 e) (list_any (crowds len a 0) T) refl (none_crowds len a T)
 
 pub free_of_none : (len : Value → ℕ) (a n : ℕ) (T : Program) → n ≡ 0 → is_free len T a n ≡ true
 free_of_none len a n T none = ap (is_free len T a) none ∙ not_from_false (list_any (crowds len a 0) T) (none_crowds len a T)

@@ -9,6 +9,7 @@ use Rattle.std.specs.declared.cmp.Ordering.{Ordering}
 use Rattle.std.specs.declared.cmp.Ordering.TheVariants.{Less, Equal, Greater}
 use Rattle.std.specs.Ordering.{is_lt}
 use Rattle.std.specs.FinMap.Entries.{below_all}
+use Rattle.std.proofs.lemmas.Option.{none-some}
 use Rattle.rvd_fact.specs.declared.keys.Key.{Key}
 use Rattle.rvd_fact.specs.declared.cells.Cell.{Cell}
 use Rattle.rvd_fact.specs.declared.cells.Change.{Change}
@@ -32,9 +33,6 @@ pub record IsPlain (S : Program) : Type 0 where
 -- each cell of a program is one of another
 abbrev pub IsPart : Program → Program → Type 0
 IsPart P S = (q : Key) (c : Cell) → cell_at P q ≡ Some c → cell_at S q ≡ Some c
-
-None≢Some : (c : Cell) → None ≡ Some c → ⊥
-None≢Some c e = cc
 
 -- a cell is there or not
 pub cases_cell : {Goal : Type 0} (o : Option Cell) → (o ≡ None → Goal) → ((c : Cell) → o ≡ Some c → Goal) → Goal
@@ -67,13 +65,13 @@ module _ (S P : Program) (plain : IsPlain S) (order : IsInOrder P) (part : IsPar
     blocks_apart = blocks;
     units_apart = λ a b lt some_a some_b. absurd (let zero = no_span a in omega (arith, some_a, zero));
     in_a_block = λ a some. absurd (let zero = no_span a in omega (arith, some, zero));
-    words = λ a w s e. absurd (None≢Some (record { value = Code w; source = s }) (sym (no_unit a) ∙ e));
+    words = λ a w s e. absurd (none-some (record { value = Code w; source = s }) (sym (no_unit a) ∙ e));
   }
 
 -- a key below all others is another key
 apart_keys : (e : Key × Cell) (es : Program) (q : Key) (c : Cell) → T (below_all key_cmp e.0 es) → cell_at es q ≡ Some c → same_key q e.0 ≡ false
 apart_keys e es q c below here = elim (cases_key q e.0) [
-  | inl same ↦ absurd (None≢Some c (sym (absent e.0 es below) ∙ ap (cell_at es) (sym same) ∙ here))
+  | inl same ↦ absurd (none-some c (sym (absent e.0 es below) ∙ ap (cell_at es) (sym same) ∙ here))
   | inr other ↦ other
 ]
 
@@ -99,7 +97,7 @@ fits_rest S P (e ∷ es) plain order part rising awaits =
     (own.0, valid_part S (placed P e.0 (Some e.1)) plain order' part', fits_rest S (placed P e.0 (Some e.1)) es plain order' part' (second _ _ rising) awaits')
 
 pub fits_plain : (S : Program) → IsPlain S → Fits [] (changes_of S)
-fits_plain S plain = fits_rest S [] S plain tt (λ q c h. absurd (None≢Some c h)) plain.in_order (λ q c h. (refl, h))
+fits_plain S plain = fits_rest S [] S plain tt (λ q c h. absurd (none-some c h)) plain.in_order (λ q c h. (refl, h))
 
 less : (r : Ordering) → T (is_lt r) → r ≡ Less
 less Less h = refl

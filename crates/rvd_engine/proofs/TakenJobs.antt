@@ -3,13 +3,13 @@
 use Rattle.std.proofs.Common.{◌≡◌, ℕ, ◌+◌, ◌<◌, ◌≤◌, Bool, true, false, cond, not, ◌==◌, List, [], ◌∷◌, length, find, Option, Some, None, refl, sym, ap, ◌∙◌, subst, arith}
 use Rattle.std.specs.Option.{option_map}
 use Rattle.std.proofs.lemmas.Bool.{eq-eqb, eqb-true, ne_eqb, or_from, true≢false}
+use Rattle.std.proofs.lemmas.Option.{none-some, same_Some}
 use Rattle.rvd_fact.specs.Program.{Program}
 use Rattle.rvd_ask.specs.declared.asks.Item.{Item}
 use Rattle.rvd_queue.specs.Jobs.{Job as TakenJob, is_of, has_ticket, found, without_ticket}
 use Rattle.rvd_queue.specs.Jobs as queue
 use Rattle.rvd_machine.specs.State.{Job, job_of, other_jobs}
 use Rattle.rvd_machine.specs.Steps.{AreJobs}
-use Rattle.rvd_machine.proofs.Replied.{none-some, some_is}
 use Rattle.rvd_engine.specs.Inside.{job_in, jobs_in}
 use Rattle.rvd_engine.specs.Offered.{of_job, shown}
 
@@ -75,7 +75,7 @@ dropped_is ticket from next (job ∷ jobs) h =
 pub shown_is : (o : Option Job) (items : List Item) (P : Program) → option_map of_job o ≡ Some (items, P) → (job : Job) × (o ≡ Some job) × (job.items ≡ items) × (job.program ≡ P)
 shown_is None items P is = absurd (none-some (items, P) is)
 shown_is (Some job) items P is =
-    let both : of_job job ≡ (items, P) = some_is (of_job job) (items, P) is in
+    let both : of_job job ≡ (items, P) = same_Some (of_job job) (items, P) is in
     (job, refl, ap (λ (p : List Item × Program). p.0) both, ap (λ (p : List Item × Program). p.1) both)
 
 pub none_shown : (o : Option Job) → option_map of_job o ≡ None → o ≡ None
@@ -87,7 +87,7 @@ few_of ticket from next [] job h is = absurd (none-some job is)
 few_of ticket from next (j ∷ jobs) job h is = by (j.ticket == ticket) (few_of ticket (j.ticket + 1) next jobs job h.2) is
   where
     by : (b : Bool) → (job_of ticket jobs ≡ Some job → length job.items ≤ 64) → cond b (Some j) (job_of ticket jobs) ≡ Some job → length job.items ≤ 64
-    by true behind same = subst (λ (x : Job). length x.items ≤ 64) (some_is j job same) h.1
+    by true behind same = subst (λ (x : Job). length x.items ≤ 64) (same_Some j job same) h.1
     by false behind other = behind other
 
 pub has_few : (ticket from next : ℕ) (jobs : List Job) (items : List Item) (P : Program) → AreJobs from next jobs → shown ticket jobs ≡ Some (items, P) → length items ≤ 64

@@ -4,10 +4,11 @@ use Rattle.std.specs.Prelude.{flat_map, nat_eq, nat_lt, ◌==◌}
 use Rattle.std.specs.List.{AllByRecursion, starts_with}
 use Rattle.std.specs.Char.{digit_char}
 use Rattle.std.specs.Fmt.{decimal}
-use Rattle.std.proofs.lemmas.Bool.{eqb-true}
+use Rattle.std.proofs.lemmas.Bool.{eqb-true, and_parts}
 use Rattle.std.proofs.lemmas.Bool.Decides.{nat_tests}
 use Rattle.rvd_text.specs.Hex.{hex8}
 use Rattle.rvd_text.specs.Quoted.{low_hex}
+use Rattle.rvd_text.proofs.Quotes.{hex_back}
 use Rattle.rvd_fact.specs.declared.values.RefClass.{RefClass}
 use Rattle.rvd_ask.specs.declared.asks.Ask.{Ask}
 use Rattle.rvd_ask.specs.declared.asks.Ask.TheVariants as ask
@@ -24,21 +25,19 @@ use Rattle.rvd_reading.proofs.NumbersBack.{hex8-back, number-back}
 use Rattle.rvd_reading.proofs.Choices.{choose-skips, skips}
 use Rattle.rvd_reading.proofs.ListsBack.{elements, list-back}
 use Rattle.rvd_reading.proofs.ValuesBack.{cell-back}
+use Rattle.rvd_reading.proofs.Flats.{flat3, flat5}
 use Rattle.rvd_journal_text.specs.Answers.{answer_text, reference_text, references_answer}
 use Rattle.rvd_journal_reading.specs.Asks.{FitsAsk, at_of}
 use Rattle.rvd_journal_reading.specs.Answers.{FitsAnswer, FitsReference, answer_of, bare_answer, bracket_of, bytes_of, hex2_of, more_references_of, reference_of, references_of, some_bytes_of, some_references_of, start_of}
 
--- a lower-case digit is read back, and is no n
-digit-back : (d : ℕ) → d < 16 → low_hex (digit_char d) ≡ Some d
-digit-back d l = grind (arith, nat_tests)
-
+-- a lower-case digit is no n
 no_n : (d : ℕ) → d < 16 → nat_eq 110 (digit_char d) ≡ false
 no_n d l = grind (arith, nat_tests)
 
 hex2-back : (b : ℕ) (rest : List ℕ) → b < 256 → hex2_of (hex2 b ++ rest) ≡ Some (b, rest)
 hex2-back b rest l =
-    ap (λ (o : Option ℕ). o >>= (λ a. low_hex (digit_char (b % 16)) >>= (λ c. let s : Step ℕ = Some (a * 16 + c, rest) in s))) (digit-back (b / 16) (omega arith))
-    ∙ ap (λ (o : Option ℕ). o >>= (λ c. let s : Step ℕ = Some (b / 16 * 16 + c, rest) in s)) (digit-back (b % 16) (omega arith))
+    ap (λ (o : Option ℕ). o >>= (λ a. low_hex (digit_char (b % 16)) >>= (λ c. let s : Step ℕ = Some (a * 16 + c, rest) in s))) (hex_back (b / 16) (omega arith))
+    ∙ ap (λ (o : Option ℕ). o >>= (λ c. let s : Step ℕ = Some (b / 16 * 16 + c, rest) in s)) (hex_back (b % 16) (omega arith))
     ∙ ap (λ (n : ℕ). let s : Step ℕ = Some (n, rest) in s) (omega arith)
 
 bytes-back : (bs rest : List ℕ) → AllByRecursion (λ b. b < 256) bs → bytes_of (length bs) (flat_map hex2 bs ++ rest) ≡ Some (bs, rest)
@@ -65,13 +64,6 @@ some_bytes-back b bs rest all =
     let skip : starts_with nat_eq (flat_map hex2 (b ∷ bs) ++ rest) (codes "none") ≡ false = rw first refl in
     choose-skips ((codes "none", just (answer.Bytes None)) ∷ []) (some_bytes_of (length (b ∷ bs))) (flat_map hex2 (b ∷ bs) ++ rest) (skip, tt)
     ∙ ap (λ (o : Step (List ℕ)). o >>= (λ x. let s : Step Answer = Some (answer.Bytes (Some x.0), x.1) in s)) (bytes-back (b ∷ bs) rest all)
-
--- three, and five parts, and what stands behind them
-flat3 : (a b c rest : List ℕ) → ((a ++ b) ++ c) ++ rest ≡ a ++ (b ++ (c ++ rest))
-flat3 a b c rest = simp append_assoc
-
-pub flat5 : (a b c d e rest : List ℕ) → ((((a ++ b) ++ c) ++ d) ++ e) ++ rest ≡ a ++ (b ++ (c ++ (d ++ (e ++ rest))))
-flat5 a b c d e rest = simp append_assoc
 
 reference-back : (r : ℕ × RefClass × ℕ) (rest : List ℕ) → FitsReference r → reference_of (reference_text r ++ rest) ≡ Some (r, rest)
 unfolding reference_of
@@ -116,10 +108,6 @@ references-back (r ∷ rs) rest all stop =
     ∙ ap (λ (o : Step (ℕ × RefClass × ℕ)). o >>= (λ x. more_references_of x.1 >>= (λ ys. with_first x.0 ys))) one
     ∙ ap (λ (o : Step (List (ℕ × RefClass × ℕ))). o >>= with_first r) others
 
-pub both : (p q : Bool) → (p && q) ≡ true → (p ≡ true) × (q ≡ true)
-both true q h = (refl, h)
-both false q h = absurd (cc)
-
 -- each answer of the ask's form is read back, behind which no comma stands
 pub answer-back : (q : Ask) (a : Answer) (rest : List ℕ) → FitsAsk q → has_form q a ≡ true → FitsAnswer a → starts_with nat_eq rest (44 ∷ []) ≡ false → answer_of q (answer_text q a ++ rest) ≡ Some (bare_answer a, rest)
 unfolding answer_of answer_text bracket_of
@@ -133,11 +121,11 @@ answer-back (ask.Block at) (answer.At None) rest ask_fits form fits stop = refl
 answer-back (ask.Block at) (answer.At (Some start)) rest ask_fits form fits stop = some_start-back start rest fits
 answer-back (ask.Bytes at len) (answer.Bytes None) rest ask_fits form fits stop = refl
 answer-back (ask.Bytes at len) (answer.Bytes (Some [])) rest ask_fits form fits stop =
-    let parts = both (nat_lt 0 len) (length {A = ℕ} [] == len) form in
+    let parts = and_parts (nat_lt 0 len) (length {A = ℕ} [] == len) form in
     let none : 0 ≡ len = eqb-true 0 len parts.1 in
     absurd (grind (arith, nat_tests, parts.0, none))
 answer-back (ask.Bytes at len) (answer.Bytes (Some (b ∷ bs))) rest ask_fits form fits stop =
-    let parts = both (nat_lt 0 len) (length (b ∷ bs) == len) form in
+    let parts = and_parts (nat_lt 0 len) (length (b ∷ bs) == len) form in
     let count : length (b ∷ bs) ≡ len = eqb-true (length (b ∷ bs)) len parts.1 in
     let Read : ℕ → Type 0 = λ n. answer_of (ask.Bytes 0 n) (flat_map hex2 (b ∷ bs) ++ rest) ≡ Some (answer.Bytes (Some (b ∷ bs)), rest) in
     subst Read count (some_bytes-back b bs rest fits)

@@ -2,6 +2,7 @@
 use Rattle.std.proofs.Common.{◌≡◌, ℕ, true, false, ◌&&◌, List, [], ◌∷◌, ◌++◌, Some, codes, refl, ap, ◌∙◌, arith}
 use Rattle.std.specs.Prelude.{nat_eq}
 use Rattle.std.specs.List.{starts_with}
+use Rattle.std.proofs.lemmas.Bool.{and_parts}
 use Rattle.rvd_ask.specs.declared.asks.Ask.{Ask}
 use Rattle.rvd_ask.specs.declared.answers.Answer.{Answer}
 use Rattle.rvd_ask.specs.Forms.{has_form}
@@ -11,6 +12,7 @@ use Rattle.rvd_event.specs.Verdicts.{has_forms}
 use Rattle.rvd_reading.specs.Steps.{◌>>=◌, Step}
 use Rattle.rvd_reading.specs.Numbers.{begins_with_digit}
 use Rattle.rvd_reading.proofs.NumbersBack.{number-back}
+use Rattle.rvd_reading.proofs.Flats.{flat5}
 use Rattle.rvd_journal_text.specs.Answers.{answer_text, ask_text}
 use Rattle.rvd_journal_text.specs.Verdicts.{difference_text, verdict_text}
 use Rattle.rvd_journal_reading.specs.Asks.{FitsAsk}
@@ -18,13 +20,13 @@ use Rattle.rvd_journal_reading.specs.Answers.{FitsAnswer, bare_answer}
 use Rattle.rvd_journal_reading.specs.Verdicts.{FitsVerdict, bare_verdict, difference_of, verdict_of}
 use Rattle.rvd_journal_reading.specs.Laws.{VerdictLaw}
 use Rattle.rvd_journal_reading.proofs.AsksBack.{ask-back}
-use Rattle.rvd_journal_reading.proofs.AnswersBack.{answer-back, both, flat5}
+use Rattle.rvd_journal_reading.proofs.AnswersBack.{answer-back}
 
 difference-back : (q : Ask) (a b : Answer) (rest : List ℕ) → (has_form q a && has_form q b) ≡ true → FitsAsk q → FitsAnswer a → FitsAnswer b → starts_with nat_eq rest (44 ∷ []) ≡ false
     → difference_of (difference_text q a b ++ rest) ≡ Some ((q, bare_answer a, bare_answer b), rest)
 unfolding difference_of
 difference-back q a b rest forms ask_fits first_fits second_fits stop =
-    let parts = both (has_form q a) (has_form q b) forms in
+    let parts = and_parts (has_form q a) (has_form q b) forms in
     let one = ask-back q (answer_text q a ++ (codes " " ++ (answer_text q b ++ rest))) ask_fits in
     let two = answer-back q a (codes " " ++ (answer_text q b ++ rest)) ask_fits parts.0 first_fits refl in
     let three = answer-back q b rest ask_fits parts.1 second_fits stop in

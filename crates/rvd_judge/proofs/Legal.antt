@@ -23,7 +23,7 @@ use Rattle.rvd_wake.specs.Laws.{AnalysisLaws, LeadAll}
 use Rattle.rvd_machine.specs.Enabled.{Enabled, is_on}
 use Rattle.rvd_machine.specs.Exact.{AreExactVerdicts, IsFirstDiffering, IsVerdictAt, IsVerdictBy, IsVerdictIf, verdict_by}
 use Rattle.rvd_machine.specs.Verdicts.{AreVerdicts, Batch, IsVerdict, judged}
-use Rattle.rvd_machine.proofs.Exacts.{holds}
+use Rattle.rvd_machine.proofs.Exacts.{holds, legal_by_rule}
 use Rattle.rvd_judge.specs.Differing.{IsVerdictAtFirst}
 use Rattle.rvd_judge.specs.Effects.{changes_by, changes_of, program_after}
 use Rattle.rvd_judge.proofs.Outcomes.{items_in}
@@ -73,9 +73,6 @@ forms_by_rule [] = refl
 forms_by_rule (c ∷ cs) = refl
 
 -- ---- a verdict that may be given
-legal_by : (E : Enabled) (P : Program) (b : Batch) (i : Item) (cs : List Change) → is_on E i.analyzer ≡ true → rule b.work i ≡ cs → IsVerdict E P b i (verdict_by cs)
-legal_by E P b i [] on are = (on, are)
-legal_by E P b i (c ∷ cs) on are = (on, omega arith, sym (ap length are))
 
 legal_at : (E : Enabled) (P : Program) (b : Batch) (i : Item) (r : Ask × Answer) (v : Verdict) → is_on E i.analyzer ≡ true → has_forms v ≡ true → (IsSame r.1 (ans b.work r.0) → ⊥) → IsVerdictAt P b.work r v → IsVerdict E P b i v
 legal_at E P b i r v on forms other (inl at) =
@@ -84,7 +81,7 @@ legal_at E P b i r v on forms other (inr at) =
     subst (IsVerdict E P b i) (sym at.1) (on, (and_parts (has_form r.0 r.1) (has_form r.0 (ans P r.0)) (ap has_forms (sym at.1) ∙ forms)).0, refl, at.0, other)
 
 legal_found : (E : Enabled) (P : Program) (b : Batch) (p : Proposed) (found : Option (Ask × Answer)) (v : Verdict) → is_on E p.item.analyzer ≡ true → has_forms v ≡ true → IsFirstDiffering b.work p.reads found → IsVerdictBy P b.work p.item found v → IsVerdict E P b p.item v
-legal_found E P b p None v on forms first by = subst (IsVerdict E P b p.item) (sym by) (legal_by E P b p.item (rule b.work p.item) on refl)
+legal_found E P b p None v on forms first by = subst (IsVerdict E P b p.item) (sym by) (legal_by_rule E P b p.item (rule b.work p.item) on refl)
 legal_found E P b p (Some r) v on forms first at = legal_at E P b p.item r v on forms (differs b.work p.reads r first) at
 
 legal_if : (E : Enabled) (P : Program) (b : Batch) (p : Proposed) (v : Verdict) (on : Bool) → is_on E p.item.analyzer ≡ on → has_forms v ≡ true → IsVerdictIf on P b.work p v → IsVerdict E P b p.item v

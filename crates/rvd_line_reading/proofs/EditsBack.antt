@@ -21,19 +21,12 @@ use Rattle.rvd_reading.proofs.ActorsBack.{range-back}
 use Rattle.rvd_reading.proofs.SetsBack.{are_ranges}
 use Rattle.rvd_journal_text.specs.Edits.{edit_text, range_words}
 use Rattle.rvd_line_reading.specs.Edits.{FitsEdit, block_of, body_of, bookmark_of, comment_of, datum_of, edit_of, label_of, next_range_of, range_set_of, range_words_of, ranges_to, ref_of}
-use Rattle.rvd_line_reading.proofs.Flats.{flat3, flat4, flat6}
+use Rattle.rvd_reading.proofs.Flats.{flat3, flat4, flat6}
+use Rattle.rvd_reading.proofs.ValuesBack.{all_ends, Ends}
 
 -- what stands behind an event
 abbrev pub sign : List ℕ → List ℕ
 sign more = codes " = " ++ more
-
--- the ends of a set's ranges are addresses
-abbrev Ends : ℕ × ℕ → Type 0
-Ends r = (r.0 < 2 ^ 32) × (r.1 < 2 ^ 32)
-
-all_ends : (low : ℕ) (rs : List (ℕ × ℕ)) → AreRangesFrom low rs → AllByRecursion Ends rs
-all_ends low [] h = tt
-all_ends low (r ∷ rs) h = let order = h.1 in let top = h.2 in ((omega arith, top), all_ends (r.1 + 2) rs h.3)
 
 -- ranges have no fewer bytes than there are of them
 enough : (rs : List (ℕ × ℕ)) (rest : List ℕ) → length rs ≤ length (range_words rs ++ rest)

@@ -17,7 +17,7 @@ use Rattle.rvd_line_reading.specs.Lines.{IsInRange, bare_entry, entry_of}
 use Rattle.rvd_line_reading.specs.Front.{AreNames, BeginsWith, HasNoEntry, HasNoHead, Takes, head_of}
 use Rattle.rvd_line_reading.specs.Laws.{FrontLaw}
 use Rattle.rvd_line_reading.proofs.BareTexts.{bare_entry-line, bare_entry-range}
-use Rattle.rvd_line_reading.proofs.Flats.{flat5}
+use Rattle.rvd_reading.proofs.Flats.{flat5}
 use Rattle.rvd_line_reading.proofs.LinesBack.{entry-back}
 
 -- what a test of the front tells

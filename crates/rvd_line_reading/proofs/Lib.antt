@@ -1,7 +1,6 @@
 pub mod Types
 pub mod RangeSteps
 pub mod Ended
-pub mod Flats
 pub mod RepliesBack
 pub mod EditsBack
 pub mod EventsBack

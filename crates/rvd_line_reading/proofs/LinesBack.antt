@@ -19,7 +19,7 @@ use Rattle.rvd_line_reading.specs.Laws.{LineLaw}
 use Rattle.rvd_line_reading.proofs.BareTexts.{bare_entry-line, bare_entry-range}
 use Rattle.rvd_line_reading.proofs.EventsBack.{event_law}
 use Rattle.rvd_line_reading.proofs.RepliesBack.{reply_law}
-use Rattle.rvd_line_reading.proofs.Flats.{flat4, flat5}
+use Rattle.rvd_reading.proofs.Flats.{flat4, flat5}
 
 -- nothing is left of a line, or its line feed comes first
 abbrev pub EndsLine : List ℕ → Type 0

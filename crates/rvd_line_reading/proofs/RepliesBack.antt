@@ -3,6 +3,7 @@ use Rattle.std.proofs.Common.{◌≡◌, ℕ, zero, suc, ◌^◌, ◌<◌, ◌�
 use Rattle.std.specs.Prelude.{nat_eq}
 use Rattle.std.specs.List.{AllByRecursion, list_all, starts_with}
 use Rattle.std.specs.Fmt.{decimal}
+use Rattle.std.proofs.lemmas.Bool.{and_parts}
 use Rattle.rvd_text.specs.Hex.{hex8}
 use Rattle.rvd_ask.specs.declared.asks.Item.{Item}
 use Rattle.rvd_event.specs.declared.verdicts.Verdict.{Verdict}
@@ -20,13 +21,12 @@ use Rattle.rvd_reading.proofs.ListsBack.{elements, list-back}
 use Rattle.rvd_journal_text.specs.Verdicts.{more_verdicts, verdict_text}
 use Rattle.rvd_journal_text.specs.Replies.{item_text, item_words, reply_text}
 use Rattle.rvd_journal_reading.specs.Verdicts.{FitsVerdict, bare_verdict, verdict_of}
-use Rattle.rvd_journal_reading.proofs.AnswersBack.{both}
 use Rattle.rvd_journal_reading.proofs.RefusalsBack.{refusal_law}
 use Rattle.rvd_journal_reading.proofs.VerdictsBack.{verdict_law}
 use Rattle.rvd_line_reading.specs.Replies.{FitsItem, FitsReply, are_formed, bare_reply, has_ended, item_of, items_of, more_verdicts_of, reply_of, some_verdicts_of}
 use Rattle.rvd_line_reading.specs.Laws.{ReplyLaw}
 use Rattle.rvd_line_reading.proofs.Ended.{closing, no_comma, no_digit, no_space}
-use Rattle.rvd_line_reading.proofs.Flats.{flat3}
+use Rattle.rvd_reading.proofs.Flats.{flat3}
 
 item-back : (item : Item) (rest : List ℕ) → FitsItem item → item_of (item_text item ++ rest) ≡ Some (item, rest)
 unfolding item_of
@@ -88,7 +88,7 @@ verdicts-back (suc n) [] rest l forms all end =
     ap (λ (q : Bool). cond q (verdict_of (drop 1 rest) >>= then_more n) (let s : Step (List Verdict) = Some ([], rest) in s)) (no_space rest end)
 verdicts-back zero (v ∷ vs) rest l forms all end = absurd (omega arith)
 verdicts-back (suc n) (v ∷ vs) rest l forms all end =
-    let formed = both (has_forms v) (list_all has_forms vs) forms in
+    let formed = and_parts (has_forms v) (list_all has_forms vs) forms in
     ap (λ (bs : List ℕ). list_of (suc n) (codes " ") verdict_of (32 ∷ bs)) (append_assoc (verdict_text v) (more_verdicts vs) rest)
     ∙ ap (λ (o : Step Verdict). o >>= then_more n) (one_verdict v vs rest formed.0 all.0 end)
     ∙ ap (λ (o : Step (List Verdict)). o >>= with_first (bare_verdict v)) (verdicts-back n vs rest (omega arith) formed.1 all.1 end)
@@ -114,7 +114,7 @@ some_verdicts-back : (v : Verdict) (vs : List Verdict) (rest : List ℕ) → lis
     → reply_of (reply_text (Verdicts (v ∷ vs)) ++ rest) ≡ Some (Verdicts (map bare_verdict (v ∷ vs)), rest)
 unfolding reply_text more_verdicts_of
 some_verdicts-back v vs rest forms all end =
-    let formed = both (has_forms v) (list_all has_forms vs) forms in
+    let formed = and_parts (has_forms v) (list_all has_forms vs) forms in
     let more = more_verdicts vs ++ rest in
     let others = verdicts-back (length more) vs rest (enough verdict_text vs rest) formed.1 all.1 end in
     ap reply_of (append_assoc (verdict_text v) (more_verdicts vs) rest)

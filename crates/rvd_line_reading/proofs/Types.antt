@@ -1,11 +1,10 @@
 -- What the types of an entry's parts keep, as what it takes for a part to be in its range: of bytes, of a set, and of a list
 -- whose elements are gone over.
 use Rattle.std.proofs.Common.{◌≡◌, ℕ, zero, suc, ◌+◌, ◌<◌, ◌≤◌, true, List, [], ◌∷◌, length, take, get_or, refl, sym, subst, add-one, arith}
-use Rattle.std.specs.Prelude.{nat_lt, nat_le}
 use Rattle.std.specs.List.{All, AllByRecursion}
-use Rattle.std.proofs.lemmas.Bool.{and_from, lt-ltb, le-leb}
 use Rattle.std.proofs.lemmas.List.{take_all}
-use Rattle.rvd_fact.specs.Ranges.{AreRanges, AreRangesFrom, are_ranges_from, is_range_set}
+use Rattle.rvd_fact.specs.Ranges.{AreRanges, is_range_set}
+use Rattle.rvd_fact.proofs.RangeLists.{are_ranges_test}
 
 pub small_bytes : (xs : List ℕ) → ((i : ℕ) → get_or xs i 0 < 256) → AllByRecursion (λ b. b < 256) xs
 small_bytes [] small = tt
@@ -16,15 +15,8 @@ each P [] h k d l = absurd (omega arith)
 each P (x ∷ xs) h zero d l = h.0
 each P (x ∷ xs) h (suc k) d l = each P xs h.1 k d (omega arith)
 
-ranges_from : (low : ℕ) (rs : List (ℕ × ℕ)) → AreRangesFrom low rs → are_ranges_from low rs ≡ true
-ranges_from low [] h = refl
-ranges_from low (r ∷ rs) h =
-    and_from (nat_le low r.0) _ (le-leb low r.0 h.0)
-    (and_from (nat_le r.0 r.1) _ (le-leb r.0 r.1 h.1)
-    (and_from (nat_lt r.1 4294967296) (are_ranges_from (r.1 + 2) rs) (lt-ltb r.1 4294967296 h.2) (ranges_from (r.1 + 2) rs h.3)))
-
 pub ranges_are : (rs : List (ℕ × ℕ)) → AreRanges rs → is_range_set rs ≡ true
-ranges_are rs h = ranges_from 0 rs h
+ranges_are rs h = are_ranges_test 0 rs h
 
 -- one more element, and all of them
 one_more : {A : Type 0} (P : A → Type 0) (xs : List A) (i : ℕ) (x : A) → i < length xs → x ≡ get_or xs i x → AllByRecursion P (take i xs) → P x → AllByRecursion P (take (suc i) xs)

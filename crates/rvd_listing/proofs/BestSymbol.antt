@@ -6,6 +6,7 @@ use Rattle.std.specs.Option.{option_and_then}
 use Rattle.std.proofs.Math.Nat.{eq-or-lt_of_le}
 use Rattle.std.proofs.lemmas.Bool.{false≢true, ltb-true}
 use Rattle.std.proofs.lemmas.Bool.Decides.{nat_tests}
+use Rattle.std.proofs.lemmas.Option.{none-some, same_Some}
 use Rattle.rvd_fact.specs.declared.cells.Cell.{Cell}
 use Rattle.rvd_fact.specs.declared.values.Value.{Value}
 use Rattle.rvd_fact.specs.declared.values.Value.TheVariants.{Block, Mark, Func, Body, Symbol, Comment, Bookmark, Code, Plain, Ref, Gone}
@@ -32,12 +33,6 @@ Tells S a n (Some c) = IsBest S a n c
 -- a slot below n + 1 is below n, or n itself
 earlier : (t n : ℕ) → t < suc n → (t ≡ n) ⊎ (t < n)
 earlier t n h = let le : t ≤ n = omega arith in eq-or-lt_of_le {n = t} {m = n} le
-
-same_Some : (c d : Cell) → Some c ≡ Some d → c ≡ d
-same_Some c d h = cc
-
-None≢Some : (c : Cell) → None ≡ Some c → ⊥
-None≢Some c h = cc
 
 -- at the slot n
 at_slot : (S : Program) (a t n : ℕ) (o : Option Cell) (d : Cell) → t ≡ n → cell_at S (symbol_key a n) ≡ o → cell_at S (symbol_key a t) ≡ Some d → o ≡ Some d
@@ -96,8 +91,8 @@ and_false b h = h
 
 -- one more slot
 tells_more : (S : Program) (a n : ℕ) (best o : Option Cell) → cell_at S (symbol_key a n) ≡ o → Tells S a n best → Tells S a (suc n) (better best o)
-tells_more S a n None None here bare = bare_more S a n None here (λ d e _. None≢Some d e) bare
-tells_more S a n (Some b) None here best = best_more S a n None b here (λ d e _. absurd (None≢Some d e)) best
+tells_more S a n None None here bare = bare_more S a n None here (λ d e _. none-some d e) bare
+tells_more S a n (Some b) None here best = best_more S a n None b here (λ d e _. absurd (none-some d e)) best
 tells_more S a n None (Some c) here bare =
     elim (is_symbol c.value) as (λ k. is_symbol c.value ≡ k → Tells S a (suc n) (cond k (Some c) None)) [
       | true ↦ λ is. best_new S a n c here is (λ t d below there symbol. absurd (bare t d below there symbol))

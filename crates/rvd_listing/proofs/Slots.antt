@@ -7,6 +7,7 @@ use Rattle.std.specs.declared.cmp.Ordering.TheVariants.{Less, Equal, Greater}
 use Rattle.std.specs.Ordering.{is_le, nat_cmp, ordering_then}
 use Rattle.std.specs.Cmp.{nat_cmp_is}
 use Rattle.std.proofs.lemmas.Cmp.{ranked}
+use Rattle.std.proofs.lemmas.Option.{none-some}
 use Rattle.rvd_table.specs.Table.{IsNext}
 use Rattle.rvd_table.proofs.MapLaws.{next_entry-nearest}
 use Rattle.rvd_fact.specs.declared.keys.Kind.TheVariants as kind
@@ -78,9 +79,6 @@ slots_le a s t h =
       | inr same ↦ le_of s t same.1
     ]
 
-some_none : (v : Cell) → None ≡ Some v → ⊥
-some_none v h = cc
-
 -- where a cell is refused at a key, there is none
 none_there : (o : Option Cell) → ((v : Cell) → o ≡ Some v → ⊥) → o ≡ None
 none_there None h = refl
@@ -88,7 +86,7 @@ none_there (Some v) h = absurd (h v refl)
 
 clash : (S : Program) (a slot t : ℕ) (answer : Option (Key × Cell)) → slot ≤ t → t < slots → IsNext key_cmp (symbol_key a slot) S answer → IfSome answer (λ e. IsNoSlot a e.0)
     → (v : Cell) → cell_at S (symbol_key a t) ≡ Some v → ⊥
-clash S a slot t None low high n other v found = some_none v (sym (n.none (symbol_key a t) (le_slots a slot t low)) ∙ found)
+clash S a slot t None low high n other v found = none-some v (sym (n.none (symbol_key a t) (le_slots a slot t low)) ∙ found)
 clash S a slot t (Some e) low high n other v found =
     let here : IsSlot a slot t e.0 = between a slot t e.0 n.held.1 (n.nearest (symbol_key a t) v found (le_slots a slot t low)) in
     other e.0.sub (omega arith) here.is

@@ -10,11 +10,12 @@ use Rattle.rvd_ask.specs.Rules.{rule}
 use Rattle.rvd_ask.specs.Unsettled.{has_item, candidates, same_analyzer}
 use Rattle.rvd_ask.proofs.ItemOrder.{same_analyzer as one_analyzer}
 use Rattle.rvd_queue.specs.Sets.{with_all, without_analyzer}
+use Rattle.rvd_queue.proofs.ItemSets.{has_item-with_all}
 use Rattle.rvd_machine.specs.Enabled.{Enabled, is_on, switched, all_candidates}
 use Rattle.rvd_machine.specs.State.{State, Open, Job, base, work, work_in, is_taken}
 use Rattle.rvd_machine.specs.Moves.{kept_with, filled, turned_on, kept_without, turned_off, turned, kept_none, cancelled, taken_by}
 use Rattle.rvd_machine.specs.Sound.{Sound, AreAllValid, AreValid, is_kept, programs_of}
-use Rattle.rvd_machine.proofs.Members.{has_item-with_all, has_item-filter, has_item-parted, no_candidate, is_on-switched_same, is_on-switched_other, is_taken-append}
+use Rattle.rvd_machine.proofs.Members.{has_item-filter, has_item-parted, no_candidate, is_on-switched_same, is_on-switched_other, is_taken-append}
 use Rattle.rvd_machine.proofs.Leads.{Laws}
 
 -- ---- what is gained

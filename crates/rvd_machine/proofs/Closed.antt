@@ -3,6 +3,7 @@
 use Rattle.std.proofs.Common.{◌≡◌, ℕ, ◌^◌, ◌+◌, Bool, true, false, cond, not, ◌&&◌, ◌||◌, ◌==◌, nat_lt, List, [], ◌∷◌, ◌++◌, length, filter, take, Option, Some, None, Result, Ok, Err, refl, sym, ap, ◌∙◌, inl, inr, arith}
 use Rattle.std.specs.List.{list_any}
 use Rattle.std.proofs.lemmas.Bool.{and_parts, both_ways, or_cases, or_parts, false_from_ne_true, or_from, cond_both, eqb-true, false≢true, true≢false, not-true, not-false}
+use Rattle.std.proofs.lemmas.Option.{none-some, same_Some}
 use Rattle.rvd_fact.specs.declared.cells.Change.{Change}
 use Rattle.rvd_fact.specs.Program.{Program}
 use Rattle.rvd_ask.specs.declared.asks.Analyzer.{Analyzer}
@@ -27,7 +28,6 @@ use Rattle.rvd_machine.specs.Replies.{answered, edit_reply, end_reply, end_reply
 use Rattle.rvd_machine.specs.Steps.{counted, moved, after, is_refused, IsStep, AreSteps, start_of}
 use Rattle.rvd_machine.specs.Sound.{Sound, IsClosedAt, AreClosed, SettledIsClosed}
 use Rattle.rvd_machine.proofs.Leads.{Laws}
-use Rattle.rvd_machine.proofs.Replied.{none-some, some_is}
 use Rattle.rvd_machine.proofs.Whole.{move_keeps, step_keeps, start_is_sound}
 
 -- ---- a list without members is empty, and a program where all items are settled is closed
@@ -57,7 +57,7 @@ base_is_work : (S : Program) (c : Option Open) → is_open c ≡ false → work_
 base_is_work S None h = refl
 base_is_work S (Some o) h = absurd (true≢false h)
 
-none_queued : (queue : List Item) (i : Item) → (length queue == 0) ≡ true → has_item i queue ≡ false
+pub none_queued : (queue : List Item) (i : Item) → (length queue == 0) ≡ true → has_item i queue ≡ false
 none_queued [] i h = refl
 none_queued (x ∷ queue) i h = let e = eqb-true (length (x ∷ queue)) 0 h in absurd (omega (arith, e))
 
@@ -96,7 +96,7 @@ is_settled_at (reply.SettledAt n) = true
 is_settled_at r = false
 
 other_reply : (r x : Reply) → Some x ≡ Some r → is_settled_at x ≡ false → is_settled_at r ≡ false
-other_reply r x said other = ap is_settled_at (sym (some_is x r said)) ∙ other
+other_reply r x said other = ap is_settled_at (sym (same_Some x r said)) ∙ other
 
 none_said : {A : Type 0} (r : Reply) → None ≡ Some r → A
 none_said r said = absurd (none-some r said)

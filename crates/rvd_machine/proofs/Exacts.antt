@@ -3,6 +3,7 @@
 use Rattle.std.proofs.Common.{◌≡◌, ℕ, suc, ◌≤◌, Bool, true, false, cond, List, [], ◌∷◌, length, Option, Some, None, refl, sym, ap, ◌∙◌, subst, inl, inr, arith}
 use Rattle.std.specs.Option.{option_map}
 use Rattle.std.proofs.lemmas.Bool.{and_parts}
+use Rattle.std.proofs.lemmas.Option.{none-some, same_Some}
 use Rattle.rvd_fact.specs.declared.cells.Change.{Change}
 use Rattle.rvd_fact.specs.Program.{Program}
 use Rattle.rvd_ask.specs.declared.answers.Answer.{Answer}
@@ -22,10 +23,9 @@ use Rattle.rvd_machine.specs.State.{State, Job, job_of}
 use Rattle.rvd_machine.specs.Verdicts.{Batch, first_batch, judged, IsVerdict, AreVerdicts}
 use Rattle.rvd_machine.specs.Replies.{IsOfferReply, IsJobReply}
 use Rattle.rvd_machine.specs.Exact.{first_misfit, IsFirstDiffering, verdict_by, IsVerdictAt, IsVerdictBy, IsVerdictIf, AreExactVerdicts, IsFitReply, IsExactIn, AreProposals, ExactIsLegal, ExactIsOne}
-use Rattle.rvd_machine.proofs.Replied.{none-some, some_is}
 
 -- ---- a verdict on one proposal is legal
-legal_by_rule : (E : Enabled) (P : Program) (b : Batch) (i : Item) (cs : List Change) → is_on E i.analyzer ≡ true → rule b.work i ≡ cs → IsVerdict E P b i (verdict_by cs)
+pub legal_by_rule : (E : Enabled) (P : Program) (b : Batch) (i : Item) (cs : List Change) → is_on E i.analyzer ≡ true → rule b.work i ≡ cs → IsVerdict E P b i (verdict_by cs)
 legal_by_rule E P b i [] on is = (on, is)
 legal_by_rule E P b i (c ∷ cs) on is = (on, omega arith, sym (ap length is))
 
@@ -40,7 +40,7 @@ differing W (x ∷ reads) r forms found =
     let parts = and_parts (has_form x.0 x.1) (are_reads reads) forms in
     elim found [
       | inl later ↦ differing W reads r parts.1 later.1
-      | inr this ↦ subst (λ (y : Ask × Answer). (has_form y.0 y.1 ≡ true) × (IsSame y.1 (ans W y.0) → ⊥)) (some_is x r (sym this.1)) (parts.0, this.0)
+      | inr this ↦ subst (λ (y : Ask × Answer). (has_form y.0 y.1 ≡ true) × (IsSame y.1 (ans W y.0) → ⊥)) (same_Some x r (sym this.1)) (parts.0, this.0)
     ]
 
 legal_on : (E : Enabled) (P : Program) (b : Batch) (p : Proposed) (v : Verdict) → is_on E p.item.analyzer ≡ true → are_reads p.reads ≡ true → (found : Option (Ask × Answer)) → IsFirstDiffering b.work p.reads found → IsVerdictBy P b.work p.item found v → IsVerdict E P b p.item v
@@ -83,14 +83,14 @@ legal_verdicts E P (i ∷ items) (p ∷ proposals) b (v ∷ vs) fit forms exact 
 -- ---- a misfit is within the job
 pub misfit_within : (items : List Item) (proposals : List Proposed) (place : ℕ) → first_misfit items proposals ≡ Some place → place ≤ length items
 misfit_within [] [] place h = absurd (none-some place h)
-misfit_within [] (p ∷ proposals) place h = let e = some_is 0 place h in omega (arith, e)
-misfit_within (i ∷ items) [] place h = let e = some_is 0 place h in omega (arith, e)
+misfit_within [] (p ∷ proposals) place h = let e = same_Some 0 place h in omega (arith, e)
+misfit_within (i ∷ items) [] place h = let e = same_Some 0 place h in omega (arith, e)
 misfit_within (i ∷ items) (p ∷ proposals) place h = by (same_item i p.item) (first_misfit items proposals) h (λ n. misfit_within items proposals n)
   where
     by : (b : Bool) (o : Option ℕ) → cond b (option_map suc o) (Some 0) ≡ Some place → ((n : ℕ) → o ≡ Some n → n ≤ length items) → place ≤ suc (length items)
     by true None h within = absurd (none-some place h)
-    by true (Some n) h within = let e = some_is (suc n) place h in let le = within n refl in omega (arith, e, le)
-    by false o h within = let e = some_is 0 place h in omega (arith, e)
+    by true (Some n) h within = let e = same_Some (suc n) place h in let le = within n refl in omega (arith, e, le)
+    by false o h within = let e = same_Some 0 place h in omega (arith, e)
 
 -- ---- the reply
 fit_is_legal : (s : State) (job : Job) (proposals : List Proposed) (o : Option ℕ) (r : Reply) → first_misfit job.items proposals ≡ o → AreProposals proposals → IsFitReply s job proposals o r → IsJobReply s job r

@@ -15,13 +15,14 @@ use Rattle.rvd_trans.specs.Entries.{count_of}
 use Rattle.rvd_undo.specs.History.{History, undo_to, redo_to}
 use Rattle.rvd_edit.specs.Edits.{edit_of}
 use Rattle.rvd_queue.specs.Sets.{with_all}
+use Rattle.rvd_queue.proofs.ItemSets.{has_item-with_all}
 use Rattle.rvd_wake.specs.Laws.{LeadAll}
 use Rattle.rvd_machine.specs.Enabled.{woken_into}
 use Rattle.rvd_machine.specs.State.{State, Open, base, work, work_in, is_taken, taken_items, without}
 use Rattle.rvd_machine.specs.Moves.{stepped, commit, rollback, begun_in, begun, changed_in, edited_by, edited, entry_ended, commit_step, ended_open, ended_in, entries_aborted, closed_open, closed_in, closed, undone, redone, settles, settled}
 use Rattle.rvd_machine.specs.Steps.{counted}
 use Rattle.rvd_machine.specs.Sound.{Sound, AreAllValid, AreValid}
-use Rattle.rvd_machine.proofs.Members.{has_item-with_all, is_taken-items, not_woken}
+use Rattle.rvd_machine.proofs.Members.{is_taken-items, not_woken}
 use Rattle.rvd_machine.proofs.Leads.{Laws, edits_lead, wake_all, valid_all}
 
 pub valid_take : (n : ℕ) (programs : List Program) → AreValid programs → AreValid (take n programs)

@@ -1,6 +1,6 @@
 pub mod Journals
 pub mod Replied
-mod Jobs
+pub mod Jobs
 mod Bounds
 mod Rooms
 pub mod Members
@@ -9,7 +9,7 @@ mod Keeps
 mod Analyses
 mod Offers
 mod Whole
-mod Closed
+pub mod Closed
 pub mod Exacts
 mod Readings
 mod Joins

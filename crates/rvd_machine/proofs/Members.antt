@@ -1,15 +1,11 @@
--- Which items are in a set after it gains or loses some, and in the jobs that are taken. Use `has_item-with_all`,
--- `has_item-filter`, `not_woken`, `no_candidate` and `is_taken-items`.
+-- Which items are in a set after it gains or loses some, and in the jobs that are taken. Use `has_item-filter`,
+-- `not_woken`, `no_candidate` and `is_taken-items`.
 use Rattle.std.proofs.Common.{◌≡◌, ℕ, ◌^◌, Bool, true, false, cond, ◌&&◌, ◌||◌, nat_lt, List, [], ◌∷◌, ◌++◌, take, drop, filter, Option, Some, refl, sym, ap, ◌∙◌}
 use Rattle.std.specs.Prelude.{unwrap_or, ◌==◌}
-use Rattle.std.specs.Ordering.{match_ordering}
-use Rattle.std.specs.declared.cmp.Ordering.{Ordering}
-use Rattle.std.specs.declared.cmp.Ordering.TheVariants.{Less, Equal, Greater}
 use Rattle.std.proofs.lemmas.Bool.{or_parts, or_from, true≢false}
-use Rattle.std.proofs.lemmas.Cmp.{eq_by_cmp_equiv}
 use Rattle.std.proofs.lemmas.List.{take-append-drop}
 use Rattle.std.proofs.lemmas.List.Folds.{list_any-append}
-use Rattle.std.proofs.lemmas.Map.Made.{is_member-filter}
+use Rattle.std.proofs.Math.Bool.{and-true, or_assoc}
 use Rattle.rvd_fact.specs.declared.cells.Change.{Change}
 use Rattle.rvd_fact.specs.Program.{Program, applied}
 use Rattle.rvd_ask.specs.declared.asks.Analyzer.{Analyzer}
@@ -18,42 +14,17 @@ use Rattle.rvd_ask.specs.declared.asks.Item.{Item}
 use Rattle.rvd_ask.specs.Order.{item_cmp, same_item}
 use Rattle.rvd_ask.specs.Unsettled.{candidates, has_item, same_analyzer, woken, ListingLaw}
 use Rattle.rvd_ask.specs.Wake.{is_candidate}
-use Rattle.rvd_ask.proofs.ItemOrder.{items_total, items_exact, same_item-true}
+use Rattle.rvd_ask.proofs.ItemOrder.{items_total, has_item-filter as has_item-filter_all}
 use Rattle.rvd_queue.specs.Sets.{with, with_all}
+use Rattle.rvd_queue.proofs.OrderedLists.{any-insert}
+use Rattle.rvd_queue.proofs.ItemSets.{has_item-with_all}
 use Rattle.rvd_machine.specs.Enabled.{Enabled, all_candidates, is_on, switched, only_on, woken_into}
 use Rattle.rvd_machine.specs.State.{Job, is_taken, taken_items, job_of, other_jobs}
 use Rattle.rvd_machine.proofs.Leads.{AreAsleep}
 
-or_assoc : (a b c : Bool) → (a || (b || c)) ≡ ((a || b) || c)
-or_assoc true b c = refl
-or_assoc false b c = refl
-
-or_swap : (a b c : Bool) → (a || (b || c)) ≡ (b || (a || c))
-or_swap true true c = refl
-or_swap true false c = refl
-or_swap false b c = refl
-
-or_twice : (a b : Bool) → (a || (a || b)) ≡ (a || b)
-or_twice true b = refl
-or_twice false b = refl
-
 -- ---- sets
 pub has_item-with : (j i : Item) (items : List Item) → has_item j (with i items) ≡ (same_item j i || has_item j items)
-has_item-with j i [] = refl
-has_item-with j i (x ∷ items) = by (item_cmp i x) refl (has_item-with j i items)
-  where
-    by : (o : Ordering) → item_cmp i x ≡ o → has_item j (with i items) ≡ (same_item j i || has_item j items) → has_item j (match_ordering o (i ∷ x ∷ items) (x ∷ items) (x ∷ with i items)) ≡ (same_item j i || (same_item j x || has_item j items))
-    by Less e rest = refl
-    by Equal e rest = sym (ap (λ (y : Item). same_item j y || (same_item j x || has_item j items)) (items_exact i x e) ∙ or_twice (same_item j x) (has_item j items))
-    by Greater e rest = ap (λ (b : Bool). same_item j x || b) rest ∙ or_swap (same_item j x) (same_item j i) (has_item j items)
-
-pub has_item-with_all : (j : Item) (more items : List Item) → has_item j (with_all more items) ≡ (has_item j more || has_item j items)
-has_item-with_all j [] items = refl
-has_item-with_all j (i ∷ more) items =
-    has_item-with_all j more (with i items)
-    ∙ ap (λ (b : Bool). has_item j more || b) (has_item-with j i items)
-    ∙ or_swap (has_item j more) (same_item j i) (has_item j items)
-    ∙ or_assoc (same_item j i) (has_item j more) (has_item j items)
+has_item-with j i items = any-insert items_total j i items
 
 pub has_item-append : (j : Item) (items others : List Item) → has_item j (items ++ others) ≡ (has_item j items || has_item j others)
 has_item-append j items others = list_any-append (same_item j) items others
@@ -64,13 +35,7 @@ has_item-parted j n items = ap (has_item j) (sym (take-append-drop n items)) ∙
 -- an item that passes a test stays
 pub has_item-filter : (j : Item) (test : Item → Bool) (items : List Item) → test j ≡ true → has_item j (filter test items) ≡ has_item j items
 has_item-filter j test items passes =
-    is_member-filter (eq_by_cmp_equiv items_total) test j (λ i same. ap test (same_item-true j i same)) items
-    ∙ ap (λ b. has_item j items && b) passes
-    ∙ and_true (has_item j items)
-  where
-    and_true : (b : Bool) → (b && true) ≡ b
-    and_true true = refl
-    and_true false = refl
+    has_item-filter_all j test items ∙ ap (λ b. has_item j items && b) passes ∙ and-true (has_item j items)
 
 -- ---- what changes wake
 pub not_woken : (i : Item) (E : Enabled) → is_on E i.analyzer ≡ true → (cs : List Change) (S : Program) (queue : List Item) → has_item i (woken_into E S cs queue) ≡ false → AreAsleep S cs i × (has_item i queue ≡ false)
@@ -116,7 +81,7 @@ is_taken-items j (job ∷ jobs) = has_item-append j job.items (taken_items jobs)
 
 pub is_taken-append : (j : Item) (jobs more : List Job) → is_taken j (jobs ++ more) ≡ (is_taken j jobs || is_taken j more)
 is_taken-append j [] more = refl
-is_taken-append j (job ∷ jobs) more = ap (λ (b : Bool). has_item j job.items || b) (is_taken-append j jobs more) ∙ or_assoc (has_item j job.items) (is_taken j jobs) (is_taken j more)
+is_taken-append j (job ∷ jobs) more = ap (λ (b : Bool). has_item j job.items || b) (is_taken-append j jobs more) ∙ sym (or_assoc (has_item j job.items) (is_taken j jobs) (is_taken j more))
 
 -- an item that is in no other job and not in this one is in none
 pub not_taken : (i : Item) (ticket : ℕ) (jobs : List Job) (job : Job) → job_of ticket jobs ≡ Some job → is_taken i (other_jobs ticket jobs) ≡ false → has_item i job.items ≡ false → is_taken i jobs ≡ false

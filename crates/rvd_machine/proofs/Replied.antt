@@ -1,8 +1,7 @@
 -- What a reply tells of the event that it answers. Use `not_refused` and `job_given`.
-use Rattle.std.proofs.Common.{◌≡◌, ℕ, ◌≤◌, Bool, true, false, cond, ◌||◌, ◌==◌, nat_lt, take, Option, Some, None, refl, sym, ap, ◌∙◌, subst}
-use Rattle.std.specs.Prelude.{unwrap_or}
-use Rattle.std.specs.Option.{MatchOption}
+use Rattle.std.proofs.Common.{◌≡◌, ℕ, ◌≤◌, Bool, true, false, cond, ◌||◌, ◌==◌, nat_lt, take, Option, Some, None, refl, sym, ap, ◌∙◌}
 use Rattle.std.proofs.lemmas.Bool.{false≢true, or_parts, ltb-false}
+use Rattle.std.proofs.lemmas.Option.{none-some, same_Some}
 use Rattle.rvd_event.specs.declared.events.Event.{Event}
 use Rattle.rvd_event.specs.declared.replies.Reply.{Reply}
 use Rattle.rvd_event.specs.declared.replies.Reply.TheVariants as reply
@@ -11,16 +10,10 @@ use Rattle.rvd_machine.specs.State.{State}
 use Rattle.rvd_machine.specs.Replies.{answered, take_reply, takes_none, is_finished, is_idle}
 use Rattle.rvd_machine.specs.Steps.{is_refused}
 
-pub none-some : {A : Type 0} (x : A) → None ≡ Some x → ⊥
-none-some {A} x h = subst (λ (o : Option A). MatchOption o (Unit {0}) (λ _. ⊥)) h tt
-
-pub some_is : {A : Type 0} (x y : A) → Some x ≡ Some y → x ≡ y
-some_is x y h = ap (λ o. unwrap_or o x) h
-
 -- a reply that is no refusal is given where nothing is refused
 pub not_refused : (s : State) (a : ℕ) (e : Event) (o : Option Refusal) (r : Reply) → answered s a e o ≡ Some r → is_refused r ≡ false → o ≡ None
 not_refused s a e None r said open_one = refl
-not_refused s a e (Some x) r said open_one = absurd (false≢true (sym open_one ∙ ap is_refused (sym (some_is (reply.Refused x) r said))))
+not_refused s a e (Some x) r said open_one = absurd (false≢true (sym open_one ∙ ap is_refused (sym (same_Some (reply.Refused x) r said))))
 
 -- a job has at most 64 items
 pub job_given : (s : State) (n : ℕ) (r : Reply) → take_reply s n ≡ Some r → takes_none s n ≡ false

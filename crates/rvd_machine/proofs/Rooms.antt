@@ -3,6 +3,7 @@ use Rattle.std.proofs.Common.{◌≡◌, ℕ, suc, ◌+◌, ◌≤◌, Bool, tru
 use Rattle.std.proofs.lemmas.Bool.{cond_both, false≢true, true≢false, leb-true, ltb-true, or_cases, or_left, or_right, eqb-true, eq-eqb}
 use Rattle.std.proofs.lemmas.List.{length-append}
 use Rattle.std.proofs.lemmas.List.Sums.{sum_by-cons}
+use Rattle.std.proofs.lemmas.Option.{none-some, same_Some}
 use Rattle.rvd_fact.specs.declared.cells.Change.{Change}
 use Rattle.rvd_ask.specs.declared.asks.Analyzer.{Analyzer}
 use Rattle.rvd_ask.specs.declared.asks.Item.{Item}
@@ -27,7 +28,7 @@ use Rattle.rvd_machine.specs.Moves.{move, changed_in, edited_by, begun_in, ended
 use Rattle.rvd_machine.specs.Replies.{answered, refused, refused_if, end_reply, end_reply_open, next_step, IsReply}
 use Rattle.rvd_machine.specs.Steps.{Head, start_of, state_from, state, after, moved, counted, is_refused, verdicts_in, has_room, kept_rooms, max_entries, AreSteps, IsLegal}
 use Rattle.rvd_machine.proofs.Bounds.{without_newest-shorter, filter-shorter, length-up_to}
-use Rattle.rvd_machine.proofs.Replied.{none-some, some_is, not_refused}
+use Rattle.rvd_machine.proofs.Replied.{not_refused}
 
 -- ---- live entries and their sessions
 has-cons : (a : ℕ) (e : LiveEntry) (es : List LiveEntry) → has_of a (e ∷ es) ≡ true → ((e.actor == a) ≡ true) ⊎ (has_of a es ≡ true)
@@ -182,7 +183,7 @@ some_session false o r h = absurd (none-some r (sym h))
 
 end_granted : (s : State) (a : ℕ) (keep : Bool) (c : Option Open) (r : Reply) → end_reply s a keep c ≡ Some r → is_refused r ≡ false
 end_granted s a keep None r h = absurd (none-some r h)
-end_granted s a keep (Some o) r h = sym (ap is_refused (some_is (end_reply_open s (entry_ended a keep o)) r h)) ∙ by (entry_ended a keep o)
+end_granted s a keep (Some o) r h = sym (ap is_refused (same_Some (end_reply_open s (entry_ended a keep o)) r h)) ∙ by (entry_ended a keep o)
   where
     by : (o : Open) → is_refused (end_reply_open s o) ≡ false
     by o = cond_both (nat_lt 0 (length o.entries)) (reply.Waiting (length o.entries)) (cond o.aborted reply.RolledBack (reply.Committed (next_step s))) (λ x. is_refused x ≡ false)
@@ -207,7 +208,7 @@ end_is_granted s a keep r rooms own said =
 close_is_granted : (s : State) (a : ℕ) (r : Reply) → is_session a s.open_sessions ≡ true → IsReply s a event.Close r → is_refused r ≡ false
 close_is_granted s a r session said =
     let none : refused s a event.Close ≡ None = subst (λ t. cond t None (Some refusal.NoSession) ≡ None) (sym session) refl in
-    sym (ap is_refused (some_is (reply.Closed (lives_of s a)) r (subst (λ o. answered s a event.Close o ≡ Some r) none said)))
+    sym (ap is_refused (same_Some (reply.Closed (lives_of s a)) r (subst (λ o. answered s a event.Close o ≡ Some r) none said)))
 
 -- ---- an event with its reply
 unless : (s t : State) (b : Bool) → HasRooms s → (b ≡ true → Room s s.current) → (b ≡ false → IsLeft t) → IsLeft (cond b s t)

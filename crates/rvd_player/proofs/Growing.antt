@@ -5,6 +5,7 @@ use Rattle.std.specs.Prelude.{Option, Some, None, drop, flat_map, slice_get, tak
 use Rattle.std.proofs.Math.Seq.{take-append_seam}
 use Rattle.std.proofs.lemmas.Grind.{flat_map-append}
 use Rattle.std.proofs.lemmas.List.{append-nil, length-replicate, length-set}
+use Rattle.std.proofs.lemmas.Option.{none-some}
 use Rattle.rvd_fact.specs.Program.{Program}
 use Rattle.rvd_event.specs.declared.events.Event.{Event}
 use Rattle.rvd_event.specs.declared.events.Event.TheVariants as event
@@ -32,9 +33,6 @@ use Rattle.rvd_player.specs.Seen.{Seen, answer_to, answers_of, seen_after, seen_
 
 abbrev with_journal : Story → List Entry → Story
 with_journal d J = record d { journal = J }
-
-some_none : (h : Halt) → Some h ≡ None → ⊥
-some_none h same = cc
 
 -- ---- the entries of a settle
 proper-append : (s : State) (J K : List Entry) → AreProper s J → AreProper (state_from s J) K → AreProper s (J ++ K)
@@ -145,7 +143,7 @@ full_settle old new w n is = elim is.stands [
 pub settle_fails : (old new : Story) (l : EventLine) (n : ℕ) (error : DeskError) → old.halt ≡ None → l.what ≡ Settle n → StopsShort old new l.actor n error → LineFails old l new error
 settle_fails old new l n (Refused refusal) running is short = absurd short
 settle_fails old new l n (JournalFull count) running is short = (short.0, subst (λ (w : What1). IsFullAt old l.actor w new) (sym is) (full_settle old new l.actor n short.1))
-settle_fails old new l n (Stopped halt) running is short = absurd (some_none halt (sym short.1 ∙ running))
+settle_fails old new l n (Stopped halt) running is short = absurd (none-some halt (sym running ∙ short.1))
 settle_fails old new l n OutOfMemory running is short = tt
 
 -- ---- lines one after the other

@@ -24,6 +24,7 @@ use Rattle.rvd_machine.specs.Sound.{Sound}
 use Rattle.rvd_machine.specs.State.{base, is_doomed, is_quiet, is_taken, Job, job_of, Open, other_jobs, State, waits, work, work_in}
 use Rattle.rvd_machine.specs.Steps.{after, AreSteps, counted, IsStep, state_from}
 use Rattle.rvd_machine.specs.Verdicts.{Batch, first_batch, judged_all}
+use Rattle.rvd_machine.proofs.Closed.{none_queued}
 use Rattle.rvd_settle.specs.Settling.{ArePairs, IsCall}
 
 -- a whole analysis stands for all analyzers, session 1 is open, no transaction is, and no job is taken; or one is
@@ -113,9 +114,6 @@ pairs_rest s w n (x ∷ y ∷ entries) pairs steps h =
     pairs_rest (after (after s x) y) w n entries pairs.1 steps.1.1 rests
 
 -- ---- nothing is left to take
-none_queued : (queue : List Item) (i : Item) → (length queue == 0) ≡ true → has_item i queue ≡ false
-none_queued [] i h = refl
-none_queued (x ∷ queue) i h = let e = eqb-true (length (x ∷ queue)) 0 h in absurd (omega (arith, e))
 
 is_empty : (s : State) → Rests s → (is_finished s || is_idle s) ≡ true → (length s.queue == 0) ≡ true
 is_empty s h done = elim (or_cases (is_finished s) (is_idle s) done) [

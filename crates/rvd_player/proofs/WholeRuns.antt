@@ -1,6 +1,7 @@
 -- A whole analysis from its first entry on. Use `analysed` for its end, and `settle_stops` where an error comes.
 use Rattle.std.proofs.Common.{◌≡◌, ℕ, ◌+◌, ◌<◌, true, List, [], ◌∷◌, ◌++◌, length, refl, sym, ap, ◌∙◌, subst, arith, inl, inr}
 use Rattle.std.specs.Prelude.{Some, None, ◌||◌}
+use Rattle.std.proofs.lemmas.Option.{none-some}
 use Rattle.rvd_fact.specs.Program.{Program}
 use Rattle.rvd_ask.specs.Unsettled.{ListingLaw}
 use Rattle.rvd_event.specs.declared.events.Event.TheVariants as event
@@ -68,9 +69,6 @@ analysed listing P d t new n jobs is did s legal sound =
       closed = rest_is_closed listing (state_of end) (subst (λ (x : Story). Sound (state_of x)) same sound) rests done;
     })
 
-some_none : (h : Halt) → Some h ≡ None → ⊥
-some_none h same = cc
-
 -- ---- an error while it is settled
 head_is : (P : Program) (d t : Story) (n : ℕ) → d ≡ first_story P → Did d t 1 event.Full (reply.StepNo n) → t.head ≡ head_of_one P
 head_is P d t n is did = ap (λ (x : Story). x.head) (after_first P d t n is did)
@@ -106,5 +104,5 @@ fills P d t new n count is did legal counted full = elim full.stands [
 pub settle_stops : (P : Program) (d t new : Story) (n : ℕ) (error : DeskError) → d ≡ first_story P → Did d t 1 event.Full (reply.StepNo n) → IsLegal new.head new.journal → StopsShort t new 2 64 error → AnalysisFails P error
 settle_stops P d t new n (Refused r) is did legal short = absurd short
 settle_stops P d t new n (JournalFull count) is did legal short = fills P d t new n count is did legal short.0 short.1
-settle_stops P d t new n (Stopped halt) is did legal short = absurd (some_none halt (sym short.1 ∙ ap (λ (x : Story). x.halt) (after_first P d t n is did)))
+settle_stops P d t new n (Stopped halt) is did legal short = absurd (none-some halt (sym (ap (λ (x : Story). x.halt) (after_first P d t n is did)) ∙ short.1))
 settle_stops P d t new n OutOfMemory is did legal short = tt

@@ -21,10 +21,11 @@ use Rattle.rvd_fact.specs.declared.values.Value.TheVariants.{Block, Mark, Func, 
 use Rattle.rvd_fact.specs.Order.{key_cmp}
 use Rattle.rvd_fact.specs.Program.{Program, cell_at, IsInOrder}
 use Rattle.rvd_fact.specs.Memory.{key_of, block_key, unit_key, unit_len, block_len, surrounds, cover, block, bytes, bytes_in}
-use Rattle.rvd_fact.specs.Valid.{IsValid, AreApart, suits, is_of, is_address, is_whole, may_stand, top_sub, span, unit_span, block_span}
+use Rattle.rvd_fact.specs.Valid.{IsValid, AreApart, suits, is_whole, span, unit_span, block_span}
 use Rattle.rvd_fact.proofs.DerivedOrder.{derived_is}
 use Rattle.rvd_fact.proofs.KeyOrder.{keys_total}
 use Rattle.rvd_fact.specs.contracts.keys.KeyOrd.TheImpl.{cmp-value}
+use Rattle.rvd_fact.proofs.Suiting.{whole_there}
 use Rattle.rvd_program.specs.Lookup.{NoneStarts, NoneStartsFrom}
 use Rattle.rvd_program.proofs.FirstFound.{IsFirst, NonePasses, first_is, found_first, none_is}
 use Rattle.rvd_program.proofs.Lengths.{IsLengthAt, some_of, unit_at_key, block_at_key}
@@ -258,17 +259,10 @@ short k (Code w0) w = omega arith
 short k (Ref to class) w = omega arith
 short k Gone w = omega arith
 
-suits-is_whole : (k : Key) (c : Cell) → suits k c ≡ true → is_whole k.at c.value ≡ true
-suits-is_whole k c h =
-    let of = and_parts (is_of k.kind c.value) (is_address k.at && (nat_le k.sub (top_sub k.kind) && (is_whole k.at c.value && may_stand c.source c.value))) h in
-    let at = and_parts (is_address k.at) (nat_le k.sub (top_sub k.kind) && (is_whole k.at c.value && may_stand c.source c.value)) of.1 in
-    let low = and_parts (nat_le k.sub (top_sub k.kind)) (is_whole k.at c.value && may_stand c.source c.value) at.1 in
-    (and_parts (is_whole k.at c.value) (may_stand c.source c.value) low.1).0
-
 module _ (S : Program) (valid : IsValid S) where
   short_at : (b : ℕ) (o : Option Cell) → cell_at S (unit_key b) ≡ o → span unit_len o ≤ 256
   short_at b None is = omega arith
-  short_at b (Some c) is = short (unit_key b) c.value (suits-is_whole (unit_key b) c (valid.cells (unit_key b) c is))
+  short_at b (Some c) is = short (unit_key b) c.value (whole_there (unit_key b) c (valid.cells (unit_key b) c is))
 
   pub unit_is_short : (b : ℕ) → unit_span S b ≤ 256
   unit_is_short b = short_at b (cell_at S (unit_key b)) refl

@@ -1,12 +1,13 @@
 -- What a number, a list or a set of ranges owes by its type, as the tests that `suits` makes of it.
 use Rattle.std.proofs.Common.{◌≡◌, ℕ, suc, ◌+◌, ◌<◌, Bool, true, false, not, ◌&&◌, List, [], ◌∷◌, get_or, refl, sym, ap, ◌∙◌}
-use Rattle.std.specs.Prelude.{nat_lt, nat_le}
+use Rattle.std.specs.Prelude.{nat_lt}
 use Rattle.std.specs.List.{list_any}
-use Rattle.std.proofs.lemmas.Bool.{and_from, lt-ltb, le-leb}
+use Rattle.std.proofs.lemmas.Bool.{and_from, lt-ltb}
 use Rattle.rvd_fact.specs.declared.values.Value.{Value}
 use Rattle.rvd_fact.specs.Program.{Program}
-use Rattle.rvd_fact.specs.Ranges.{AreRanges, AreRangesFrom, are_ranges_from, is_range_set}
+use Rattle.rvd_fact.specs.Ranges.{AreRanges, is_range_set}
 use Rattle.rvd_fact.specs.Valid.{are_bytes}
+use Rattle.rvd_fact.proofs.RangeLists.{are_ranges_test}
 use Rattle.rvd_program.specs.Checks.{crowds, is_free}
 
 -- a list of numbers below 256 has bytes alone
@@ -18,18 +19,11 @@ pub with_bytes : (b : Bool) (xs : List ℕ) → ((i : ℕ) → get_or xs i 0 < 2
 with_bytes true xs small = sym (bytes_all xs small)
 with_bytes false xs small = refl
 
-ranges_from : (low : ℕ) (rs : List (ℕ × ℕ)) → AreRangesFrom low rs → are_ranges_from low rs ≡ true
-ranges_from low [] h = refl
-ranges_from low (r ∷ rs) h =
-    and_from (nat_le low r.0) _ (le-leb low r.0 h.0)
-    (and_from (nat_le r.0 r.1) _ (le-leb r.0 r.1 h.1)
-    (and_from (nat_lt r.1 4294967296) (are_ranges_from (r.1 + 2) rs) (lt-ltb r.1 4294967296 h.2) (ranges_from (r.1 + 2) rs h.3)))
-
 pub ranges_are : (rs : List (ℕ × ℕ)) → AreRanges rs → true ≡ is_range_set rs
-ranges_are rs h = sym (ranges_from 0 rs h)
+ranges_are rs h = sym (are_ranges_test 0 rs h)
 
 -- no bytes are crowded by nothing
-none_crowds : (len : Value → ℕ) (a : ℕ) (T : Program) → list_any (crowds len a 0) T ≡ false
+pub none_crowds : (len : Value → ℕ) (a : ℕ) (T : Program) → list_any (crowds len a 0) T ≡ false
 none_crowds len a [] = refl
 none_crowds len a (e ∷ es) = none_crowds len a es
 

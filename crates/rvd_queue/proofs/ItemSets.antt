@@ -1,14 +1,12 @@
 -- Sets of items: lists in order, told by their members. Use `same_sets` to prove two of them equal, `sorted` and `in_order`
 -- to go between the test of the definitions and std's order, and `set_law` for what each operation leaves.
 use Rattle.std.proofs.Common.{◌≡◌, ℕ, zero, suc, ◌+◌, ◌<◌, ◌≤◌, length, get_or, cond, add-one, Bool, true, false, not, ◌&&◌, ◌||◌, List, [], ◌∷◌, ◌++◌, take, drop, filter, refl, sym, ap, ◌∙◌, subst, inl, inr}
-use Rattle.std.proofs.lemmas.Bool.{and_parts, and_from, or_cases, or_left, or_right, false_from_ne_true, true≢false}
-use Rattle.std.proofs.lemmas.Cmp.{eq_by_cmp_equiv}
+use Rattle.std.proofs.lemmas.Bool.{and_parts, and_from, or_cases, or_left, or_right, false_from_ne_true, true≢false, or_parts}
 use Rattle.std.proofs.lemmas.List.{drop_all, take-append-drop}
 use Rattle.std.proofs.lemmas.List.Folds.{list_any-append}
 use Rattle.std.proofs.lemmas.List.Kept.{IsStrictlySortedBy-filter}
 use Rattle.std.proofs.lemmas.Map.Keys.{sorted_head, sorted_tail}
 use Rattle.std.proofs.lemmas.Map.Lookups.{btree_set_from_contains}
-use Rattle.std.proofs.lemmas.Map.Made.{is_member-filter}
 use Rattle.std.proofs.Math.Seq.{drop-cons}
 use Rattle.std.specs.declared.cmp.Ordering.{Ordering}
 use Rattle.std.specs.declared.cmp.Ordering.TheVariants.{Less, Equal, Greater}
@@ -19,7 +17,7 @@ use Rattle.rvd_ask.specs.declared.asks.Analyzer.{Analyzer}
 use Rattle.rvd_ask.specs.declared.asks.Item.{Item}
 use Rattle.rvd_ask.specs.Order.{item_cmp, same_item}
 use Rattle.rvd_ask.specs.Unsettled.{are_in_order, comes_before, has_item, same_analyzer}
-use Rattle.rvd_ask.proofs.ItemOrder.{items_total, items_exact, same_item-true}
+use Rattle.rvd_ask.proofs.ItemOrder.{items_total, items_exact, same_item-true, has_item-filter, all_before}
 use Rattle.rvd_queue.specs.Sets.{with, with_all, without_all, without_analyzer, AreSetOperations, SetLaw}
 use Rattle.rvd_queue.proofs.OrderedLists.{sorted-insert, sorted-drop, any-insert, none_above}
 
@@ -37,10 +35,6 @@ all_less i [] h = tt
 all_less i (j ∷ items) h =
     let parts = and_parts (comes_before i j) (list_all (comes_before i) items) h in
     (less_is (item_cmp i j) parts.0, all_less i items parts.1)
-
-all_before : (i : Item) (items : List Item) → AllByRecursion (λ j. item_cmp i j ≡ Less) items → list_all (comes_before i) items ≡ true
-all_before i [] h = refl
-all_before i (j ∷ items) h = and_from (comes_before i j) (list_all (comes_before i) items) (ap is_lt h.0) (all_before i items h.1)
 
 pub sorted : (items : List Item) → are_in_order items ≡ true → Sorted items
 unfolding IsStrictlySortedBy
@@ -75,8 +69,6 @@ has_item-with_all i (j ∷ more) items =
     ∙ shifted (same_item i j) (has_item i more) (has_item i items)
 
 -- ---- taking away
-pub has_item-filter : (i : Item) (test : Item → Bool) (items : List Item) → has_item i (filter test items) ≡ (has_item i items && test i)
-has_item-filter i test items = is_member-filter (eq_by_cmp_equiv items_total) test i (λ j h. ap test (same_item-true i j h)) items
 
 pub sorted-filter : (test : Item → Bool) (items : List Item) → Sorted items → Sorted (filter test items)
 sorted-filter test items s = IsStrictlySortedBy-filter item_cmp test items s
@@ -88,13 +80,9 @@ parted i (j ∷ items) others s h = elim (or_cases (same_item i j) (has_item i i
   | inl same ↦
       let none : has_item j (items ++ others) ≡ false = none_above items_total j (items ++ others) (sorted_head item_cmp j (items ++ others) s) in
       let apart : (has_item j items || has_item j others) ≡ false = sym (list_any-append (same_item j) items others) ∙ none in
-      ap (λ k. has_item k others) (same_item-true i j same) ∙ second (has_item j items) (has_item j others) apart
+      ap (λ k. has_item k others) (same_item-true i j same) ∙ (or_parts (has_item j items) (has_item j others) apart).1
   | inr later ↦ parted i items others (sorted_tail item_cmp j (items ++ others) s) later
 ]
-  where
-    second : (a b : Bool) → (a || b) ≡ false → b ≡ false
-    second true b h = absurd (true≢false h)
-    second false b h = h
 
 left_over : (t d : Bool) → (t ≡ true → d ≡ false) → ((t || d) && not t) ≡ d
 left_over true d apart = sym (apart refl)

@@ -1,5 +1,5 @@
-mod OrderedLists
-mod ItemSets
+pub mod OrderedLists
+pub mod ItemSets
 mod Members
 mod SweptCells
 mod FirstItems

@@ -16,12 +16,12 @@ use Rattle.rvd_ask.specs.contracts.asks.ItemOrd.TheImpl.{cmp-value}
 use Rattle.rvd_ask.specs.declared.asks.Item.{Item}
 use Rattle.rvd_ask.specs.Order.{item_cmp, same_item}
 use Rattle.rvd_ask.specs.Unsettled.{has_item}
-use Rattle.rvd_ask.proofs.ItemOrder.{items_total, cases_item, derived_is, same_item_itself}
+use Rattle.rvd_ask.proofs.ItemOrder.{items_total, cases_item, derived_is, same_item_itself, has_item-filter}
 use Rattle.rvd_queue.specs.declared.cells.Cell.{Cell}
 use Rattle.rvd_queue.specs.Cells.{AreSets, Contents, InOrder, have_cells, KeepsCells, contents_of, items_where, queued_in, kept_in, is_queued, is_kept}
 use Rattle.rvd_queue.specs.Sets.{with, with_all, without_all}
 use Rattle.rvd_queue.proofs.OrderedLists.{sorted-keys_filter, sorted-insert, any-insert, length-insert, added}
-use Rattle.rvd_queue.proofs.ItemSets.{Sorted, sorted, in_order, same_sets, sorted-filter, sorted-with_all, has_item-filter, has_item-with_all}
+use Rattle.rvd_queue.proofs.ItemSets.{Sorted, sorted, in_order, same_sets, sorted-filter, sorted-with_all, has_item-with_all}
 
 abbrev pub Cells : Type 0
 Cells = List (Item × Cell)

@@ -14,6 +14,7 @@ use Rattle.std.specs.List.{AllByRecursion, list_any}
 use Rattle.std.specs.List.Sorted.{IsStrictlySortedBy}
 use Rattle.std.specs.Map.{keys_of}
 use Rattle.std.specs.Ordering.{eq_by_cmp, is_eq, match_ordering, ordering_reverse}
+use Rattle.std.proofs.Math.Bool.{or_self_left}
 
 -- how many elements an insertion adds
 abbrev pub added : Bool → ℕ
@@ -45,16 +46,12 @@ module _ {K : Type 0} {R : K → K → Ordering} (o : IsTotalOrder R) where
   swapped false true c = refl
   swapped false false c = refl
 
-  absorbed : (a c : Bool) → (a || c) ≡ (a || (a || c))
-  absorbed true c = refl
-  absorbed false c = refl
-
   -- an element is in the list with k exactly if it is k or was in it
   pub any-insert : (q k : K) (xs : List K) → list_any (eq_by_cmp R q) (insert_key R xs k) ≡ (eq_by_cmp R q k || list_any (eq_by_cmp R q) xs)
   any-insert q k [] = refl
   any-insert q k (x ∷ xs) = elim (R k x) as (λ r. R k x ≡ r → list_any (eq_by_cmp R q) (match_ordering r (k ∷ x ∷ xs) (x ∷ xs) (x ∷ insert_key R xs k)) ≡ (eq_by_cmp R q k || (eq_by_cmp R q x || list_any (eq_by_cmp R q) xs))) [
     | Less ↦ λ h. refl
-    | Equal ↦ λ h. absorbed (eq_by_cmp R q x) (list_any (eq_by_cmp R q) xs) ∙ ap (λ b. b || (eq_by_cmp R q x || list_any (eq_by_cmp R q) xs)) (ap is_eq (sym (alike_right o k x q h)))
+    | Equal ↦ λ h. sym (or_self_left (eq_by_cmp R q x) (list_any (eq_by_cmp R q) xs)) ∙ ap (λ b. b || (eq_by_cmp R q x || list_any (eq_by_cmp R q) xs)) (ap is_eq (sym (alike_right o k x q h)))
     | Greater ↦ λ h. ap (λ b. eq_by_cmp R q x || b) (any-insert q k xs) ∙ swapped (eq_by_cmp R q k) (eq_by_cmp R q x) (list_any (eq_by_cmp R q) xs)
   ] refl
 

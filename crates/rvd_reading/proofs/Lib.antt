@@ -1,4 +1,3 @@
-pub mod Decimals
 pub mod NumbersBack
 pub mod TextsBack
 pub mod WordsBack
@@ -8,4 +7,5 @@ pub mod ActorsBack
 pub mod ListSteps
 pub mod ListsBack
 pub mod SetsBack
+pub mod Flats
 pub mod ValuesBack

@@ -3,28 +3,18 @@ use Rattle.std.proofs.Common.{◌≡◌, ℕ, zero, suc, ◌+◌, ◌<◌, ◌�
 use Rattle.std.specs.Prelude.{nat_le, nat_lt}
 use Rattle.std.proofs.lemmas.List.{take_more}
 use Rattle.std.proofs.lemmas.List.Folds.{list_any-append}
-use Rattle.std.proofs.lemmas.Bool.Decides.{nat_tests}
+use Rattle.std.proofs.lemmas.Bool.{and_parts, leb-true, ltb-true}
 use Rattle.rvd_fact.specs.Ranges.{AreRanges, AreRangesFrom, HasJust, are_ranges_from, has_address, in_range, is_range_set}
 use Rattle.rvd_fact.proofs.RangeEquality.{same_sets}
-
-both : (p q : Bool) → (p && q) ≡ true → (p ≡ true) × (q ≡ true)
-both true q h = (refl, h)
-both false q h = absurd (cc)
-
-le-from : (a b : ℕ) → nat_le a b ≡ true → a ≤ b
-le-from a b h = grind (arith, nat_tests)
-
-lt-from : (a b : ℕ) → nat_lt a b ≡ true → a < b
-lt-from a b h = grind (arith, nat_tests)
 
 -- what the test of a set tells
 from_test : (low : ℕ) (rs : List (ℕ × ℕ)) → are_ranges_from low rs ≡ true → AreRangesFrom low rs
 from_test low [] h = tt
 from_test low (r ∷ rs) h =
-    let begins = both (nat_le low r.0) (nat_le r.0 r.1 && (nat_lt r.1 4294967296 && are_ranges_from (r.1 + 2) rs)) h in
-    let ordered = both (nat_le r.0 r.1) (nat_lt r.1 4294967296 && are_ranges_from (r.1 + 2) rs) begins.1 in
-    let ends = both (nat_lt r.1 4294967296) (are_ranges_from (r.1 + 2) rs) ordered.1 in
-    (le-from low r.0 begins.0, le-from r.0 r.1 ordered.0, lt-from r.1 4294967296 ends.0, from_test (r.1 + 2) rs ends.1)
+    let begins = and_parts (nat_le low r.0) (nat_le r.0 r.1 && (nat_lt r.1 4294967296 && are_ranges_from (r.1 + 2) rs)) h in
+    let ordered = and_parts (nat_le r.0 r.1) (nat_lt r.1 4294967296 && are_ranges_from (r.1 + 2) rs) begins.1 in
+    let ends = and_parts (nat_lt r.1 4294967296) (are_ranges_from (r.1 + 2) rs) ordered.1 in
+    (leb-true low r.0 begins.0, leb-true r.0 r.1 ordered.0, ltb-true r.1 4294967296 ends.0, from_test (r.1 + 2) rs ends.1)
 
 pub are_ranges : (rs : List (ℕ × ℕ)) → is_range_set rs ≡ true → AreRanges rs
 are_ranges rs h = from_test 0 rs h

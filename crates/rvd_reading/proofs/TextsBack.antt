@@ -9,7 +9,7 @@ use Rattle.std.proofs.lemmas.Bool.Decides.{nat_tests}
 use Rattle.std.proofs.lemmas.Bool.{cond_both}
 use Rattle.rvd_text.specs.Hex.{hex8}
 use Rattle.rvd_text.specs.Quoted.{is_plain, quoted, spelled, text_of}
-use Rattle.rvd_text.proofs.Quotes.{text_of-quoted}
+use Rattle.rvd_text.proofs.Quotes.{text_of-quoted, plain_not, by_recursion}
 use Rattle.rvd_fact.specs.declared.keys.Key.{Key}
 use Rattle.rvd_notation.specs.Words.{key_text, kind_word}
 use Rattle.rvd_reading.specs.Steps.{◌>>=◌}
@@ -23,9 +23,6 @@ use Rattle.rvd_reading.proofs.NumbersBack.{hex8-back, number-back}
 -- a byte that neither is a quote nor a backslash is passed over
 passes : (c : ℕ) (cs : List ℕ) → (c == 34) ≡ false → (c == 92) ≡ false → quote_len false (c ∷ cs) ≡ suc (quote_len false cs)
 passes c cs quote backslash = rw (quote, backslash) refl
-
-plain_not : (b : ℕ) → is_plain b ≡ true → ((b == 34) ≡ false) × ((b == 92) ≡ false)
-plain_not b h = (grind (arith, nat_tests), grind (arith, nat_tests))
 
 digit_not : (d : ℕ) → d < 16 → ((digit_char d == 34) ≡ false) × ((digit_char d == 92) ≡ false)
 digit_not d l = (grind (arith, nat_tests), grind (arith, nat_tests))
@@ -47,11 +44,6 @@ pass_spelled b cs l =
     cond_both (b == 92) _ _ (Passed cs) (λ _. omega arith) (λ _.
     cond_both (b == 10) _ _ (Passed cs) (λ _. omega arith) (λ _.
     cond_both (b == 9) _ _ (Passed cs) (λ _. omega arith) (λ _. pass_digits (b / 16) (b % 16) cs (omega arith) (omega arith))))))
-
--- the bytes of a text, one by one
-by_recursion : (text : List ℕ) → All (λ b. b < 256) text → AllByRecursion (λ b. b < 256) text
-by_recursion [] h = tt
-by_recursion (b ∷ bs) h = (h 0 0 (omega arith), by_recursion bs (λ k d l. h (suc k) d (omega arith)))
 
 pass_text : (text cs : List ℕ) → AllByRecursion (λ b. b < 256) text → quote_len false (flat_map spelled text ++ cs) ≡ length (flat_map spelled text) + quote_len false cs
 pass_text [] cs h = omega arith

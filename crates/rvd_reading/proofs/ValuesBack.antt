@@ -27,12 +27,13 @@ use Rattle.rvd_reading.proofs.ActorsBack.{range-back}
 use Rattle.rvd_reading.proofs.Choices.{choose-skips}
 use Rattle.rvd_reading.proofs.ListsBack.{elements, list-back}
 use Rattle.rvd_reading.proofs.SetsBack.{are_ranges}
+use Rattle.rvd_reading.proofs.Flats.{flat4}
 
 -- the ends of a set's ranges are addresses
-abbrev Ends : ℕ × ℕ → Type 0
+abbrev pub Ends : ℕ × ℕ → Type 0
 Ends r = (r.0 < 2 ^ 32) × (r.1 < 2 ^ 32)
 
-all_ends : (low : ℕ) (rs : List (ℕ × ℕ)) → AreRangesFrom low rs → AllByRecursion Ends rs
+pub all_ends : (low : ℕ) (rs : List (ℕ × ℕ)) → AreRangesFrom low rs → AllByRecursion Ends rs
 all_ends low [] h = tt
 all_ends low (r ∷ rs) h = let order = h.1 in let top = h.2 in ((omega arith, top), all_ends (r.1 + 2) rs h.3)
 
@@ -73,10 +74,6 @@ ranges-back (r ∷ rs) rest set stop =
     ∙ ap (λ (o : Step (ℕ × ℕ)). (o >>= (λ x. more_ranges_of x.1 >>= (λ ys. with_first x.0 ys))) >>= set_of) one
     ∙ ap (λ (o : Step (List (ℕ × ℕ))). (o >>= with_first r) >>= set_of) others
     ∙ ap (λ (q : Bool). cond q (let o : Step (List (ℕ × ℕ)) = Some (r ∷ rs, rest) in o) None) set
-
--- four parts and what stands behind them
-flat4 : (a b c d rest : List ℕ) → (((a ++ b) ++ c) ++ d) ++ rest ≡ a ++ (b ++ (c ++ (d ++ rest)))
-flat4 a b c d rest = simp append_assoc
 
 -- each fact is read back, behind which a bracket closes
 pub value-back : (k : Key) (v : Value) (more : List ℕ) → k.sub < 256 → FitsValue v → value_of (fact_text k v ++ 93 ∷ more) ≡ Some (bare v, 93 ∷ more)

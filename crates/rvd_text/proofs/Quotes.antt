@@ -118,7 +118,7 @@ abbrev Reads : ℕ → List ℕ → List ℕ → Type 0
 Reads b rest piece = text_from Inside (piece ++ rest) ≡ with_byte b (text_from Inside rest)
 
 -- a plain byte is neither a quote nor a backslash
-plain_not : (b : ℕ) → is_plain b ≡ true → ((b == 34) ≡ false) × ((b == 92) ≡ false)
+pub plain_not : (b : ℕ) → is_plain b ≡ true → ((b == 34) ≡ false) × ((b == 92) ≡ false)
 plain_not b h = (grind (arith, nat_tests), grind (arith, nat_tests))
 
 -- each kind of piece is read as the byte that it stands for
@@ -208,7 +208,7 @@ pub text_of-is : (word text : List ℕ) → (text_of word ≡ Some text → IsQu
 text_of-is word text = (from_text_of word text, λ q. ap text_of q.between ∙ read_pieces q.pieces text q.stand)
 
 -- a lower-case digit is read back
-hex_back : (d : ℕ) → d < 16 → low_hex (digit_char d) ≡ Some d
+pub hex_back : (d : ℕ) → d < 16 → low_hex (digit_char d) ≡ Some d
 hex_back d l = grind (arith, nat_tests)
 
 -- what a byte spells stands for it
@@ -222,7 +222,7 @@ stands_for-spelled b l =
     (λ i. option_and_then (λ a. option_map (λ d. a * 16 + d) (hex_back (b % 16) (omega arith) i)) (hex_back (b / 16) (omega arith) i)) ∙ ap Some (omega arith))))))
 
 -- the bytes of a text, one by one
-by_recursion : (text : List ℕ) → All (λ b. b < 256) text → AllByRecursion (λ b. b < 256) text
+pub by_recursion : (text : List ℕ) → All (λ b. b < 256) text → AllByRecursion (λ b. b < 256) text
 by_recursion [] h = tt
 by_recursion (b ∷ bs) h = (h 0 0 (omega arith), by_recursion bs (λ k d l. h (suc k) d (omega arith)))
 

@@ -3,11 +3,9 @@ use Rattle.std.proofs.Common.{◌≡◌, ℕ, Bool, true, false, ◌&&◌, ◌||
 use Rattle.std.specs.Str.{bytes_eq}
 use Rattle.std.proofs.lemmas.Bool.{and_parts}
 use Rattle.std.proofs.lemmas.Slice.Eq.{bytes_eq-Decides}
+use Rattle.std.proofs.lemmas.Option.{none-some}
 use Rattle.rvd_top.specs.declared.words.Print.{Print}
 use Rattle.rvd_top.specs.Words.{begins_with_dash, pair_of, print_of, play_of, replay_of}
-
-none-some : {A : Type 0} (x : A) → None ≡ Some x → ⊥
-none-some x e = cc
 
 pub no_pair : (words : List (List ℕ)) (command : Print × List ℕ) (name : List ℕ) → print_of words ≡ Some command → pair_of name words ≡ None
 no_pair [] command name h = refl

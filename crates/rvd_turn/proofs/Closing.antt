@@ -1,5 +1,6 @@
 -- The end of a turn: the pass that holds every number finds the value at home, since whoever had the turn would hold its number with it.
 use Rattle.std.proofs.Common.{◌≡◌, ℕ, ◌<◌, ◌≤◌, true, false, List, [], ◌∷◌, sym, ap, ◌∙◌, subst, ⊎_elim, arith, Option, Some, None}
+use Rattle.std.proofs.lemmas.Option.{same_Some}
 use mathlib.Core.Option.{some, none, some-injective}
 use lib.ListN.{get_elem?}
 use Rattle.atomic_table.specs.Table.{State, Seen, Final}
@@ -9,7 +10,7 @@ use Rattle.rvd_turn.specs.Story.{owned}
 use Rattle.rvd_turn.specs.Known.{Known, IsHeld, HoldsAll, known, Tells}
 use Rattle.rvd_turn.specs.Steps.{Takes}
 use Rattle.rvd_turn.specs.Rule.{kind_of, Waits, Kept}
-use Rattle.rvd_turn.proofs.Lists.{Each-at, Some-same}
+use Rattle.rvd_turn.proofs.Lists.{Each-at}
 use Rattle.rvd_turn.proofs.Frame.{hold_of}
 use Rattle.rvd_turn.proofs.Told.{told, tells}
 
@@ -52,7 +53,7 @@ module _ {T H E : Type 0} (head_of : T → H) (entries : T → List E) (owner : 
         )
 
     pub finds_some : (x : T) → found ≡ Some x → Tells head_of entries owner p x × NoneFrom p.made x
-    finds_some x found_is = let r = finds in subst (λ (y : T). Tells head_of entries owner p y × NoneFrom p.made y) (Some-same r.0 x (sym r.1 ∙ found_is)) (r.2, r.3)
+    finds_some x found_is = let r = finds in subst (λ (y : T). Tells head_of entries owner p y × NoneFrom p.made y) (same_Some r.0 x (sym r.1 ∙ found_is)) (r.2, r.3)
 
     pub finds_none : found ≡ None → ⊥
     finds_none found_is = let r = finds in let e = r.1 in absurd (cc)

@@ -2,6 +2,7 @@
 use Rattle.std.proofs.Common.{◌≡◌, ℕ, zero, suc, ◌+◌, ◌%◌, ◌^◌, ◌≤◌, ◌≢◌, true, false, true≢false, List, [], ◌∷◌, ◌++◌, length, drop, set, get_or, refl, sym, ap, ◌∙◌, subst, inl, ⊎_elim, arith, Option, Some}
 use Rattle.std.specs.List.{AllByRecursion as Each}
 use Rattle.std.proofs.lemmas.List.Elements.{recursion_from_All}
+use Rattle.std.proofs.lemmas.Option.{same_Some}
 use mathlib.Core.Option.{some, none, some-injective}
 use lib.ListN.{get_elem?}
 use Rattle.atomic_table.specs.Table.{Me, gives, step, Allows, rest, put_back}
@@ -10,7 +11,7 @@ use Rattle.rvd_turn.specs.Story.{owned, IsPrefix, Continues}
 use Rattle.rvd_turn.specs.Views.{gave}
 use Rattle.rvd_turn.specs.Steps.{Serves}
 use Rattle.rvd_turn.specs.Rule.{Apart, TurnState, kind_of, ticket_at, Waits, IsMet, Kept}
-use Rattle.rvd_turn.proofs.Lists.{Each-imp, Each-both, at_tail, headed, drop_length, slot_value, Some-same}
+use Rattle.rvd_turn.proofs.Lists.{Each-imp, Each-both, at_tail, headed, drop_length, slot_value}
 use Rattle.rvd_turn.proofs.Prefixes.{prefix_refl, prefix_trans}
 use Rattle.rvd_turn.proofs.Owned.{owned_other, owned_same}
 use Rattle.rvd_turn.proofs.Queue.{ticket_served}
@@ -96,5 +97,5 @@ module _ {T H E : Type 0} (head_of : T → H) (entries : T → List E) (owner : 
                 turn = λ e. absurd (true≢false (sym e));
               });
         },
-        λ y e. let is : x ≡ y = Some-same x y (slot_value 0 0 (Some x) (Some y) [] [] (sym holds ∙ e)) in λ i. (gave v (entries (is i)), rest (holds i)),
+        λ y e. let is : x ≡ y = same_Some x y (slot_value 0 0 (Some x) (Some y) [] [] (sym holds ∙ e)) in λ i. (gave v (entries (is i)), rest (holds i)),
       )

@@ -87,6 +87,3 @@ first_value d (p ∷ ps) = p.1
 
 pub slot_value : {A : Type 0} (k n : ℕ) (x y : A) (xs ys : List (ℕ × A)) → (k, x) ∷ xs ≡ (n, y) ∷ ys → x ≡ y
 slot_value k n x y xs ys e = ap (first_value x) e
-
-pub Some-same : {A : Type 0} (x y : A) → Some x ≡ Some y → x ≡ y
-Some-same x y e = cc

@@ -2,11 +2,11 @@
 -- made of, `has_item-at` for an analyzer's items at some places, and `within` for places that are addresses.
 use Rattle.std.proofs.Common.{◌≡◌, ℕ, ◌<◌, Bool, true, false, ◌&&◌, ◌||◌, List, [], ◌∷◌, map, refl, sym, ap, ◌∙◌, subst, inl, inr, arith}
 use Rattle.std.specs.Prelude.{nat_lt, ◌==◌}
-use Rattle.std.specs.List.{list_all, All, AllByRecursion}
+use Rattle.std.specs.List.{list_all, All}
 use Rattle.std.proofs.lemmas.List.Elements.{All-head, All-tail}
 use Rattle.std.specs.declared.cmp.Ordering.{Ordering}
-use Rattle.std.specs.declared.cmp.Ordering.TheVariants.{Less, Equal, Greater}
-use Rattle.std.specs.Ordering.{is_lt, is_eq, nat_cmp, ordering_then}
+use Rattle.std.specs.declared.cmp.Ordering.TheVariants.{Equal, Greater}
+use Rattle.std.specs.Ordering.{is_eq, nat_cmp, ordering_then}
 use Rattle.std.specs.List.Sorted.{IsStrictlySortedBy}
 use Rattle.std.specs.BTreeSet.{BTreeSet, IsFromIterResult}
 use Rattle.std.proofs.Math.Bool.{and-false, and-or_distrib_left}
@@ -18,13 +18,9 @@ use Rattle.rvd_ask.specs.contracts.asks.ItemOrd.TheImpl.{cmp-value}
 use Rattle.rvd_ask.specs.Order.{item_cmp, priority, same_item}
 use Rattle.rvd_ask.specs.Unsettled.{are_in_order, comes_before, has_item, same_analyzer}
 use Rattle.rvd_ask.specs.Wake.{item}
-use Rattle.rvd_ask.proofs.ItemOrder.{derived_is}
+use Rattle.rvd_ask.proofs.ItemOrder.{derived_is, all_before}
 use Rattle.rvd_wake.specs.Walks.{Orders, has_place, is_at}
 use Rattle.rvd_ask.proofs.Listings.{then_is}
-
-all_before : (i : Item) (items : List Item) → AllByRecursion (λ j. item_cmp i j ≡ Less) items → list_all (comes_before i) items ≡ true
-all_before i [] h = refl
-all_before i (j ∷ items) h = and_from (comes_before i j) (list_all (comes_before i) items) (ap is_lt h.0) (all_before i items h.1)
 
 in_order : (items : List Item) → IsStrictlySortedBy item_cmp items → are_in_order items ≡ true
 unfolding IsStrictlySortedBy

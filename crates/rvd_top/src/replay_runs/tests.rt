@@ -199,7 +199,11 @@ fn names_the_line_where_a_digit_is_changed(rt: HostRuntime) -> Result<(), Fail> 
             None => Ending::Done,
         };
         assert_eq!(rt; ending, wanted, "line {line}, column {column}");
-        assert_eq!(rt; out.bytes().is_empty(), ending != Ending::Done, "line {line}, column {column}");
+        assert_eq!(rt;
+            out.bytes().is_empty(),
+            ending != Ending::Done,
+            "line {line}, column {column}"
+        );
         journal[place] = byte;
     }
     Ok(())

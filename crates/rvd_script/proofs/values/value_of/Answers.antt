@@ -1,4 +1,4 @@
-use Rattle.rvd_script.proofs.Decimals.{too_large}
+use Rattle.rvd_text.proofs.Decimals.{too_large}
 use Rattle.rvd_script.proofs.values.value_of.Goals as goal
 
 pub returns-in-None : goal.returns-in-None

@@ -1,9 +1,9 @@
 use Rattle.std.proofs.Common.{◌≡◌, ℕ, All, map, true, false, sym, ap, ◌∙◌, subst, Some}
 use Rattle.std.proofs.lemmas.List.Elements.{All-from_recursion, recursion_from_All}
 use Rattle.std.specs.List.{AllByRecursion as Each}
+use Rattle.std.proofs.lemmas.Option.{same_Some}
 use Rattle.atomic_table.specs.Seated.{TableId}
 use Rattle.rvd_turn.specs.Known.{Known, met_all}
-use Rattle.rvd_turn.proofs.Lists.{Some-same}
 use Rattle.turn_story.specs.declared.story.Note.{Note}
 use Rattle.turn_story.specs.declared.task.Task.{Task}
 use Rattle.turn_story.specs.declared.task.Done.{Done}
@@ -41,4 +41,4 @@ returns-then-whole-clause-each g c = last_wrote c.in_ok-turn.first c.meet_all.ne
 pub returns-then-whole-clause-title : goal.returns-then-whole-clause-title
 returns-then-whole-clause-title g c =
     let same = last_same c.in_ok-turn.first c.meet_all.new.first c.in_ok-tasks.tasks.items c.args.lists.items c.in_ok-all.all.items c.in_ok-tasks.ensures.1 c.in_ok-all.ensures (c.meet_all.ensures ∙ ap (λ (p : K). met_all p (map (λ (d : Done). d.pass) c.in_ok-all.all.items)) c.in_ok-tasks.ensures.0) in
-    Some-same c.close-story.result.title c.args.title (sym c.close-story.ensures.head ∙ same.2 ∙ ap (λ (p : K). p.head) c.in_ok-turn.ensures ∙ ap Some c.new.ensures.0)
+    same_Some c.close-story.result.title c.args.title (sym c.close-story.ensures.head ∙ same.2 ∙ ap (λ (p : K). p.head) c.in_ok-turn.ensures ∙ ap Some c.new.ensures.0)
