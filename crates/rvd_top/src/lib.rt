@@ -9,6 +9,7 @@
 #![tactic(auto)]
 
 mod endings;
+mod fetching;
 mod play_runs;
 mod print_runs;
 mod replay_runs;

@@ -14,13 +14,13 @@ ghost use Rattle.rvd_top.specs.Runs.{PlayRuns};
 ghost use Rattle.rvd_top.specs.Endings.{PlayEnds, PlaysBoth, PlaysOn, EndsAbove, IsWithoutFault, KeepsSink};
 
 use crate::endings::Ending;
+use crate::fetching::fetch_word;
 use crate::runs::MAX_FILE;
 use crate::texts::program_of;
 use rvd_desk::{Desk, DeskError};
 use rvd_elf::import;
 use rvd_event::{Names, Step};
-use rvd_fact::What;
-use rvd_io::{Cabinet, FetchError, PutError, Sink, put_all};
+use rvd_io::{Cabinet, PutError, Sink, put_all};
 use rvd_journal_text::print;
 use rvd_player::{Played, play};
 use rvd_program::Program;
@@ -140,25 +140,13 @@ fn run_on_files<C: Cabinet, K: Sink>(
     ensures read { (word : ℕ) → result ≡ Ending.ReadFault word → ((word ≡ 1) ⊎ (word ≡ 2)) × Rose (C.faults files.old) (C.faults files.new) }
     ensures write { result ≡ Ending.WriteFault → Rose (K.faults out.old) (K.faults out.new) }
 {
-    let bytes = match files.fetch(alloc, file, MAX_FILE) {
+    let bytes = match fetch_word(alloc, files, 1, file, MAX_FILE) {
         Ok(bytes) => bytes,
-        Err(FetchError::Failed) => return Ending::ReadFault { word: 1 },
-        Err(FetchError::TooLong) => {
-            return Ending::TooLarge {
-                what: What::FileBytes,
-                count: MAX_FILE,
-            };
-        }
-        Err(FetchError::OutOfMemory) => return Ending::Memory,
+        Err(ending) => return ending,
     };
-    match files.fetch(alloc, events, MAX_FILE) {
+    match fetch_word(alloc, files, 2, events, MAX_FILE) {
         Ok(lines) => play_bytes(alloc, &bytes, &lines, out),
-        Err(FetchError::Failed) => Ending::ReadFault { word: 2 },
-        Err(FetchError::TooLong) => Ending::TooLarge {
-            what: What::FileBytes,
-            count: MAX_FILE,
-        },
-        Err(FetchError::OutOfMemory) => Ending::Memory,
+        Err(ending) => ending,
     }
 }
 

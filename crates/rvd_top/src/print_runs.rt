@@ -8,12 +8,12 @@ ghost use Rattle.rvd_top.specs.Runs.{PrintRuns};
 ghost use Rattle.rvd_top.specs.Endings.{Ends, EndsAbove, IsWithoutFault, KeepsSink, Prints};
 
 use crate::endings::Ending;
+use crate::fetching::fetch_word;
 use crate::runs::MAX_FILE;
 use crate::texts::print_text;
 use crate::words::Print;
 use rvd_elf::import;
-use rvd_fact::What;
-use rvd_io::{Cabinet, FetchError, PutError, Sink, put_all};
+use rvd_io::{Cabinet, PutError, Sink, put_all};
 use std::alloc::Global;
 
 // Imports the bytes of a file and puts the text of its facts.
@@ -59,14 +59,9 @@ fn run_on_file<C: Cabinet, K: Sink>(
     ensures read { (word : ℕ) → result ≡ Ending.ReadFault word → (word ≡ 1) × Rose (C.faults files.old) (C.faults files.new) }
     ensures write { result ≡ Ending.WriteFault → Rose (K.faults out.old) (K.faults out.new) }
 {
-    match files.fetch(alloc, file, MAX_FILE) {
+    match fetch_word(alloc, files, 1, file, MAX_FILE) {
         Ok(bytes) => print_file(alloc, print, &bytes, out),
-        Err(FetchError::Failed) => Ending::ReadFault { word: 1 },
-        Err(FetchError::TooLong) => Ending::TooLarge {
-            what: What::FileBytes,
-            count: MAX_FILE,
-        },
-        Err(FetchError::OutOfMemory) => Ending::Memory,
+        Err(ending) => ending,
     }
 }
 
