@@ -3,8 +3,14 @@
 #![tactic(auto)]
 
 #[cfg(test)]
+mod analyses;
+#[cfg(test)]
 mod more_rows;
 #[cfg(test)]
 mod playing;
 #[cfg(test)]
+mod row;
+#[cfg(test)]
 mod rows;
+#[cfg(test)]
+mod transactions;
