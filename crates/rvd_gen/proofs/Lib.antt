@@ -1,0 +1,4 @@
+pub mod Ranges
+pub mod Sizes
+pub mod Offsets
+pub mod Functions
