@@ -2,7 +2,7 @@
 //! (RISC-V unprivileged ISA 2.1).
 //!
 //! - `decode` reads a word as an instruction, and `encode` gives an instruction's word.
-//! - `text` appends an instruction in assembly notation.
+//! - `text` appends an instruction in assembly notation, and `register` is the name of a register there.
 //! - `is_call`, `is_jump` and `falls_through` tell of a word where control goes after it, and
 //!   `Insn::target` gives the address that JAL or a branch leads to.
 //! - `plain::decode` decodes by going through the table's rows, and `no_two_rows` is the law that
@@ -33,6 +33,6 @@ pub use decoding::decode;
 pub use encoding::encode;
 pub use flow::{falls_through, is_call, is_jump};
 pub use insn::{Insn, Op};
-pub use printing::text;
+pub use printing::{register, text};
 pub use std::alloc::AllocError as OutOfMemory;
 pub use table::no_two_rows;

@@ -14,8 +14,8 @@ static REGISTERS: [&str; 32] = [
     "t5", "t6",
 ];
 
-// The name of a register.
-fn register(number: u8) -> &'static str
+/// The name of a register in the calling convention, by its number.
+pub fn register(number: u8) -> &'static str
     requires { number < 32 }
     ensures { result.now ≡ register number }
 {

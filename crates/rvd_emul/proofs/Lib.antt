@@ -1,0 +1,5 @@
+mod Blocks
+mod StoredBytes
+mod Alike
+mod Causes
+mod RegisterLines

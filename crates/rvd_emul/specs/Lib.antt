@@ -1,0 +1,5 @@
+pub mod Machine
+pub mod Classes
+pub mod Effects
+pub mod Run
+pub mod Text
