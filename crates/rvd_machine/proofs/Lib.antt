@@ -11,6 +11,10 @@ mod Offers
 mod Whole
 pub mod Closed
 pub mod Exacts
-mod Readings
+pub mod Readings
+pub mod Keeping
+mod Finish
+mod Effects
+pub mod Proper
 mod Joins
 mod WorkedRows

@@ -1,7 +1,8 @@
--- The committed program changes only where a step is noted, so the number of steps tells it. Use `base_is_at_steps`.
-use Rattle.std.proofs.Common.{◌≡◌, ℕ, ◌≤◌, Bool, true, false, cond, ◌&&◌, ◌==◌, nat_lt, nat_le, List, [], ◌∷◌, ◌++◌, length, Option, Some, None, Result, Ok, Err, refl, sym, ap, ◌∙◌, arith}
+-- The committed program changes only where a step is noted, so the number of steps tells it. Use `base_is_at_steps`,
+-- and `steps_stay_all` for the steps themselves.
+use Rattle.std.proofs.Common.{◌≡◌, ℕ, ◌≤◌, Bool, true, false, cond, ◌&&◌, ◌==◌, nat_lt, nat_le, List, [], ◌∷◌, ◌++◌, length, Option, Some, None, Result, Ok, Err, refl, sym, ap, ◌∙◌, subst, arith, append_assoc}
 use Rattle.std.proofs.lemmas.Bool.{cond_both, leb-true, le-leb}
-use Rattle.std.proofs.lemmas.List.{length-append}
+use Rattle.std.proofs.lemmas.List.{append-nil, length-append}
 use Rattle.rvd_fact.specs.declared.cells.Change.{Change}
 use Rattle.rvd_fact.specs.Program.{Program}
 use Rattle.rvd_event.specs.declared.edits.EditRefusal.{EditRefusal}
@@ -16,26 +17,37 @@ use Rattle.rvd_edit.specs.Edits.{edit_of}
 use Rattle.rvd_machine.specs.State.{State, Open, Job, base, work, without, job_of, other_jobs}
 use Rattle.rvd_machine.specs.Verdicts.{Batch, first_batch, judged_all}
 use Rattle.rvd_machine.specs.Moves.{move, changed_in, edited_by, ended_open, ended_in, entry_ended, closed_in, entries_aborted, commit, commit_step, rollback, offered_in, offered_job, analysis_text, settled, settles}
-use Rattle.rvd_machine.specs.Steps.{moved, counted, after, is_refused, verdicts_in, start_of, state_from, base_at_from, BaseIsAtSteps}
+use Rattle.rvd_machine.specs.Running.{KeepsSteps, StepsStay}
+use Rattle.rvd_machine.proofs.Journals.{state-append}
+use Rattle.rvd_machine.specs.Steps.{moved, counted, after, is_refused, verdicts_in, start_of, state, state_from, base_at_from, BaseIsAtSteps}
 
 -- steps are only added, and where none is, the committed program stays
 record Notes (s t : State) : Type 0 where
-  more : length s.steps ≤ length t.steps
+  keeps : KeepsSteps s t
   stays : length t.steps ≤ length s.steps → base t ≡ base s
 
+pub longer : (s t : State) → KeepsSteps s t → length s.steps ≤ length t.steps
+longer s t keeps = let e = ap length keeps.grown ∙ length-append s.steps keeps.more in omega (arith, e)
+
 still : (s t : State) → t.steps ≡ s.steps → base t ≡ base s → Notes s t
-still s t steps same = let e = ap length steps in record { more = omega (arith, e); stays = λ _. same }
+still s t steps same = record { keeps = record { more = []; grown = steps ∙ sym (append-nil s.steps) }; stays = λ _. same }
 
 noted : (s t : State) (x : Step) → t.steps ≡ s.steps ++ x ∷ [] → Notes s t
 noted s t x steps =
     let e = ap length steps ∙ length-append s.steps (x ∷ []) in
-    record { more = omega (arith, e); stays = λ le. absurd (omega (arith, e, le)) }
+    record { keeps = record { more = x ∷ []; grown = steps }; stays = λ le. absurd (omega (arith, e, le)) }
 
 onward : (s t u : State) → Notes s t → Notes t u → Notes s u
 onward s t u h k =
-    let first = h.more in
-    let second = k.more in
-    record { more = omega (arith, first, second); stays = λ le. k.stays (omega (arith, le, first)) ∙ h.stays (omega (arith, le, second)) }
+    let first = longer s t h.keeps in
+    let second = longer t u k.keeps in
+    record {
+      keeps = record {
+        more = h.keeps.more ++ k.keeps.more;
+        grown = k.keeps.grown ∙ ap (λ (all : List Step). all ++ k.keeps.more) h.keeps.grown ∙ append_assoc s.steps h.keeps.more k.keeps.more;
+      };
+      stays = λ le. k.stays (omega (arith, le, first)) ∙ h.stays (omega (arith, le, second));
+    }
 
 -- ---- each event
 changed_notes : (s : State) (cs : List Change) (c : Option Open) → Notes s (changed_in s cs c)
@@ -123,3 +135,6 @@ at_steps s (e ∷ J) K =
 
 pub base_is_at_steps : BaseIsAtSteps
 base_is_at_steps h J K = at_steps (start_of h) J K
+
+pub steps_stay_all : StepsStay
+steps_stay_all h J K = subst (KeepsSteps (state h J)) (sym (state-append h J K)) (entries_note (state h J) K).keeps

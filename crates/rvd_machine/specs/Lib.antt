@@ -8,3 +8,6 @@ pub mod Ranges
 pub mod Steps
 pub mod Sound
 pub mod Rooms
+pub mod Running
+pub mod Effects
+pub mod Proper

@@ -12,3 +12,4 @@ mod AllItems
 mod Leading
 mod Beyond
 mod Together
+mod Made
