@@ -6,8 +6,8 @@ ghost use Rattle.rvd_machine.specs.State.{base, lives};
 ghost use Rattle.rvd_machine.specs.Steps.{IsLegal, has_room, may_call};
 ghost use Rattle.rvd_engine.specs.Offered.{shown};
 ghost use Rattle.rvd_engine.specs.Performed.{IsReady, is_session_step};
-ghost use Rattle.rvd_desk.specs.Calls.{Did, Failed, has_step, is_refusal};
-ghost use Rattle.rvd_desk.specs.Story.{MayStop, first_halt, on_of, state_of};
+ghost use Rattle.rvd_desk.specs.Calls.{Did, Failed, MayStopAfter, halt_after, has_step, is_refusal};
+ghost use Rattle.rvd_desk.specs.Story.{IsStoppedFor, MayStop, first_halt, on_of, state_of};
 
 use crate::answers::{DeskError, Halt};
 use rvd_ask::Items;
@@ -30,6 +30,14 @@ pub struct Head {
     pub workers: u32,
 }
 
+impl Model for Head {
+    ghost use Rattle.rvd_machine.specs.Steps.{Head as Began};
+
+    ghost Value = { Began };
+
+    ghost view = { λ h. record { program = h.program; sessions = h.sessions; workers = h.workers } };
+}
+
 /// The desk. Contracts see its head, its journal, and whether it was stopped.
 #[derive(Drop)]
 pub struct Desk {
@@ -45,13 +53,13 @@ impl Model for Desk {
     ghost Value = { Story };
 
     ghost view = { λ d. record {
-      head = record { program = d.head.program; sessions = d.head.sessions; workers = d.head.workers };
+      head = d.head;
       journal = d.journal.entries;
       halt = d.halt;
     } };
 
     ghost invariant = { λ d. Kept (record {
-      head = record { program = d.head.program; sessions = d.head.sessions; workers = d.head.workers };
+      head = d.head;
       journal = d.journal.entries;
       halt = d.halt;
     }) d.machine };
@@ -113,9 +121,7 @@ impl Desk {
 
     /// How the desk began.
     pub fn head(&self) -> &Head
-        ensures program { result.now.program ≡ self.now.head.program }
-        ensures sessions { result.now.sessions ≡ self.now.head.sessions }
-        ensures workers { result.now.workers ≡ self.now.head.workers }
+        ensures { result.now ≡ self.now.head }
     {
         &self.head
     }
@@ -141,6 +147,13 @@ impl Desk {
         self.journal.entries()
     }
 
+    // The number of entries of the journal.
+    pub(crate) fn entry_count(&self) -> u64
+        ensures { result ≡ length self.now.journal }
+    {
+        self.journal.len()
+    }
+
     /// The items and the program of a job that is taken, or None where no job has this ticket.
     pub fn job(&self, ticket: u64) -> Option<(&Items, &Program)>
         ensures { option_map (λ job. (job.0.now, job.1.now)) result ≡ shown ticket (state_of self.now).taken }
@@ -160,6 +173,7 @@ impl Desk {
         ensures entries { result.entries ≡ length self.now.journal }
         ensures on { result.on ≡ on_of (state_of self.now).enabled }
         ensures halt { result.halt ≡ self.now.halt }
+        ensures cause { IsStoppedFor self.now self.now.halt }
         ensures legal { IsLegal self.now.head self.now.journal }
         ensures sound { Sound (state_of self.now) }
     {
@@ -227,8 +241,20 @@ impl Desk {
         Ok(())
     }
 
+    /// Stops the desk where a call found no memory, or no room in the journal. After another error it stays as it is.
+    pub fn stop_after(&mut self, error: &DeskError)
+        requires { MayStopAfter self.old error.now }
+        ensures { self.new ≡ record self.old { halt = halt_after self.old.halt error.now } }
+    {
+        match error {
+            DeskError::OutOfMemory => self.stop(Halt::Memory),
+            DeskError::JournalFull(count) => self.stop(Halt::Full(*count)),
+            DeskError::Refused(_) | DeskError::Stopped(_) => {}
+        }
+    }
+
     // Does a session's event, and journals it.
-    pub(crate) fn call(
+    pub(crate) fn perform(
         &mut self,
         alloc: Global,
         actor: u32,
@@ -239,6 +265,7 @@ impl Desk {
         requires step { is_session_step (state_of self.old) event ≡ true }
         ensures ok { IfOk result (λ reply. Did self.old self.new actor event reply) }
         ensures err { IfErr result (λ error. Failed self.old self.new actor event error) }
+        ensures journaled { IfErr result (λ error. is_refusal error ≡ false) }
     {
         self.check_room(actor, &event)?;
         self.journal.reserve(1)?;

@@ -24,12 +24,14 @@ use Rattle.rvd_report.specs.declared.answer_lines.Answered.{Answered}
 use Rattle.rvd_desk.specs.declared.answers.Halt.{Halt}
 use Rattle.rvd_desk.specs.declared.answers.DeskError.{DeskError}
 use Rattle.rvd_desk.specs.declared.answers.DeskError.TheVariants.{Refused, JournalFull, Stopped, OutOfMemory}
-use Rattle.rvd_settle.specs.Proper.{AreProper, IsProper, IsProperTo}
+use Rattle.rvd_machine.specs.Proper.{AreProper, IsProper, IsProperTo}
 use Rattle.rvd_settle.specs.Settling.{ArePairs, EndsWithTake, GoesOn, IsFull, Settles, StopsShort}
-use Rattle.rvd_settle.proofs.Pairs.{goes-state, state_from-append}
+use Rattle.rvd_machine.proofs.Journals.{state_from-append}
+use Rattle.rvd_settle.proofs.Pairs.{goes-state}
 use Rattle.rvd_player.specs.Lines.{AreOf, AreOfWhat, HasNoRoom, IsFullAt, LineFails, PlaysCall, PlaysSeeing, PlaysWhat}
 use Rattle.rvd_player.specs.Plays.{none_seen, PlayFails, Plays}
-use Rattle.rvd_player.specs.Seen.{Seen, answer_to, answers_of, seen_after, seen_with, shown_by}
+use Rattle.rvd_desk.specs.Shown.{shown_by}
+use Rattle.rvd_player.specs.Seen.{Seen, answer_to, answers_of, seen_after, seen_with}
 
 abbrev with_journal : Story → List Entry → Story
 with_journal d J = record d { journal = J }

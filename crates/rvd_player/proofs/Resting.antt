@@ -25,7 +25,8 @@ use Rattle.rvd_machine.specs.State.{base, is_doomed, is_quiet, is_taken, Job, jo
 use Rattle.rvd_machine.specs.Steps.{after, AreSteps, counted, IsStep, state_from}
 use Rattle.rvd_machine.specs.Verdicts.{Batch, first_batch, judged_all}
 use Rattle.rvd_machine.proofs.Closed.{none_queued}
-use Rattle.rvd_settle.specs.Settling.{ArePairs, IsCall}
+use Rattle.rvd_desk.specs.Calls.{IsCall}
+use Rattle.rvd_settle.specs.Settling.{ArePairs}
 
 -- a whole analysis stands for all analyzers, session 1 is open, no transaction is, and no job is taken; or one is
 pub record Stands (s : State) : Type 0 where

@@ -16,9 +16,10 @@ use Rattle.rvd_desk.specs.Calls.{Did, has_step}
 use Rattle.rvd_desk.specs.Story.{Story, state_of}
 use Rattle.rvd_desk.specs.declared.answers.DeskError.{DeskError}
 use Rattle.rvd_desk.specs.declared.answers.DeskError.TheVariants.{Refused, JournalFull, Stopped, OutOfMemory}
-use Rattle.rvd_settle.specs.Proper.{AreProper, IsProperTo}
+use Rattle.rvd_machine.specs.Proper.{AreProper, IsProperTo}
 use Rattle.rvd_settle.specs.Settling.{ArePairs, IsTake}
-use Rattle.rvd_player.specs.Seen.{Seen, seen_after, seen_with, shown_by}
+use Rattle.rvd_desk.specs.Shown.{shown_by}
+use Rattle.rvd_player.specs.Seen.{Seen, seen_after, seen_with}
 
 -- whether an event is a session's that is always answered, by a reply that shows no program: any but a read and a wait
 abbrev pub is_answered : Event → Bool

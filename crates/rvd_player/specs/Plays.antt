@@ -8,7 +8,7 @@ use Rattle.rvd_machine.specs.Steps.{Head, IsLegal, start_of}
 use Rattle.rvd_desk.specs.Story.{Story}
 use Rattle.rvd_desk.specs.declared.answers.DeskError.{DeskError}
 use Rattle.rvd_desk.specs.declared.answers.DeskError.TheVariants.{Refused, JournalFull, Stopped, OutOfMemory}
-use Rattle.rvd_settle.specs.Proper.{AreProper}
+use Rattle.rvd_machine.specs.Proper.{AreProper}
 use Rattle.rvd_journal.specs.declared.entries.Entry.{Entry}
 use Rattle.rvd_report.specs.declared.answer_lines.Answered.{Answered}
 use Rattle.rvd_player.specs.Lines.{AreOf, IsFullAt}

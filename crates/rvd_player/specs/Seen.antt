@@ -3,14 +3,11 @@
 -- `answers_of` for the answers to the queries among lines.
 use Rattle.std.specs.Prelude.{ℕ, ◌-◌, List, [], ◌∷◌, ◌++◌, Option, Some, None, slice_index_or, slice_set}
 use Rattle.rvd_fact.specs.Program.{Program}
-use Rattle.rvd_event.specs.declared.events.Event.{Event}
-use Rattle.rvd_event.specs.declared.events.Event.TheVariants as event
-use Rattle.rvd_event.specs.declared.replies.Reply.{Reply}
-use Rattle.rvd_event.specs.declared.replies.Reply.TheVariants as reply
 use Rattle.rvd_journal.specs.declared.entries.Entry.{Entry}
-use Rattle.rvd_machine.specs.State.{State, base}
+use Rattle.rvd_machine.specs.State.{State}
 use Rattle.rvd_machine.specs.Steps.{after, state_from}
 use Rattle.rvd_desk.specs.declared.snapshots.Snapshot.{Snapshot}
+use Rattle.rvd_desk.specs.Shown.{shown_by}
 use Rattle.rvd_query.specs.Reply.{reply as text_of}
 use Rattle.rvd_report.specs.declared.answer_lines.Answered.{Answered}
 use Rattle.rvd_script.specs.declared.script_lines.EventLine.{EventLine}
@@ -20,11 +17,6 @@ use Rattle.rvd_script.specs.declared.script_lines.What1.TheVariants.{Call, Ask, 
 -- for each session, the latest read
 abbrev pub Seen : Type 0
 Seen = List (Option Snapshot)
-
--- what a call lets its caller see: a read that isn't refused shows the committed program
-abbrev pub shown_by : State → Event → Reply → Option Snapshot
-shown_by s event.Read (reply.At steps) = Some (record { program = base s; steps = steps })
-shown_by s e r = None
 
 abbrev pub seen_with : Seen → ℕ → Option Snapshot → Seen
 seen_with seen actor None = seen

@@ -1,14 +1,13 @@
-ghost use Rattle.std.specs.Prelude.{◌≡◌, ◌≤◌, true, length, OnOk, IfOk, IfErr};
+ghost use Rattle.std.specs.Prelude.{◌≡◌, ◌≤◌, true, length, OnOk, IfErr};
 ghost use Rattle.rvd_event.specs.declared.events.Event.TheVariants as event;
 ghost use Rattle.rvd_machine.specs.Steps.{may_call};
 ghost use Rattle.rvd_script.specs.Legal.{is_session_event};
-ghost use Rattle.rvd_desk.specs.Calls.{Did, Failed};
 ghost use Rattle.rvd_desk.specs.Story.{state_of};
 ghost use Rattle.rvd_player.specs.Lines.{CallFails, is_answered, is_callable, IsRead, IsUnlessRefused, PlaysCall, PlaysSeeing};
 
 use crate::reads::note_read;
 use rvd_desk::{Desk, DeskError, Snapshot};
-use rvd_event::{Event, Reply};
+use rvd_event::Event;
 use rvd_settle::offer_taken;
 use std::alloc::Global;
 
@@ -34,36 +33,7 @@ fn unless_refused(error: DeskError) -> Result<(), DeskError>
     }
 }
 
-// Makes the call of a session's event, but a read and a wait: its reply.
-fn session_call(
-    alloc: Global,
-    desk: &mut Desk,
-    actor: u32,
-    event: &Event,
-) -> Result<Reply, DeskError>
-    requires caller { may_call (state_of desk.old) actor event.now ≡ true }
-    requires legal { is_session_event event.now ≡ true }
-    requires answered { is_answered event.now ≡ true }
-    ensures ok { IfOk result (λ reply. Did desk.old desk.new actor event.now reply) }
-    ensures err { IfErr result (λ error. Failed desk.old desk.new actor event.now error) }
-{
-    match event {
-        Event::Begin(text) => Ok(Reply::Entry(desk.begin(alloc, actor, text.copy()?)?)),
-        Event::Edit(edit) => Ok(Reply::Changed(desk.edit(alloc, actor, edit.copy()?)?)),
-        Event::End(commit) => desk.end(alloc, actor, *commit),
-        Event::Undo => Ok(Reply::StepNo(desk.undo(alloc, actor)?)),
-        Event::Redo => Ok(Reply::StepNo(desk.redo(alloc, actor)?)),
-        Event::Full => Ok(Reply::StepNo(desk.full(alloc, actor)?)),
-        Event::Cancel => Ok(Reply::StepNo(desk.cancel(alloc, actor)?)),
-        Event::Enable(analyzer, on) => {
-            Ok(Reply::StepNo(desk.enable(alloc, actor, *analyzer, *on)?))
-        }
-        Event::Close => Ok(Reply::Closed(desk.close_session(alloc, actor)?)),
-        Event::Read | Event::Wait | Event::Take(_) | Event::Offer(_) => unreachable!(),
-    }
-}
-
-// The same, where a refused call is made too.
+// Makes the call of a session's event, but a read and a wait. A refused call is made too.
 fn make_call(alloc: Global, desk: &mut Desk, actor: u32, event: &Event) -> Result<(), DeskError>
     requires caller { may_call (state_of desk.old) actor event.now ≡ true }
     requires legal { is_session_event event.now ≡ true }
@@ -71,10 +41,8 @@ fn make_call(alloc: Global, desk: &mut Desk, actor: u32, event: &Event) -> Resul
     ensures ok { OnOk result (PlaysCall desk.old actor event.now desk.new) }
     ensures err { IfErr result (λ error. CallFails desk.old desk.new actor event.now error) }
 {
-    let Err(error) = session_call(alloc, desk, actor, event) else {
-        return Ok(());
-    };
-    unless_refused(error)
+    desk.call(alloc, actor, event.copy()?)?;
+    Ok(())
 }
 
 // A wait, which is left out where it goes on.

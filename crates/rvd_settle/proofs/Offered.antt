@@ -1,131 +1,22 @@
--- What is answered to proposals that were made on the job's own program. Use `made-push` for one more proposal,
--- `proper_reply` for the reply to an offer of them, and `refused_is` for its refusal.
-use Rattle.std.proofs.Common.{◌≡◌, ℕ, suc, Bool, true, false, cond, List, [], ◌∷◌, ◌++◌, map, refl, sym, ap, ◌∙◌, subst, arith, inl, inr}
-use Rattle.std.specs.Prelude.{Contains, Option, Some, None, Result, Ok, Err, IfOk, IfErr}
-use Rattle.std.specs.Option.{option_map}
-use Rattle.rvd_fact.specs.Program.{Program}
-use Rattle.rvd_fact.specs.declared.cells.Change.{Change}
-use Rattle.rvd_ask.specs.declared.answers.Answer.{Answer}
-use Rattle.rvd_ask.specs.declared.asks.Ask.{Ask}
-use Rattle.rvd_ask.specs.declared.asks.Item.{Item}
-use Rattle.rvd_ask.specs.Answers.{ans, Hold, IsSame}
-use Rattle.rvd_ask.specs.Order.{same_item}
+-- What an offer of proposals that were made for its job gives. Use `proper_of` for its verdicts, and `failed_of` for its errors.
+use Rattle.std.proofs.Common.{◌≡◌, ℕ, List}
+use Rattle.std.specs.Prelude.{Result, Ok, Err, IfOk, IfErr}
 use Rattle.rvd_ask.specs.Promise.{Proposed}
-use Rattle.rvd_ask.specs.Rules.{asks, rule}
-use Rattle.rvd_ask.proofs.ItemOrder.{same_item_itself}
-use Rattle.rvd_event.specs.declared.replies.Reply.{Reply}
 use Rattle.rvd_event.specs.declared.replies.Reply.TheVariants as reply
-use Rattle.rvd_event.specs.declared.replies.Refusal.{Refusal}
-use Rattle.rvd_event.specs.declared.replies.Refusal.TheVariants as refusal
 use Rattle.rvd_event.specs.declared.verdicts.Verdict.{Verdict}
-use Rattle.rvd_machine.specs.Enabled.{Enabled, is_on}
-use Rattle.rvd_machine.specs.Exact.{AreExactVerdicts, first_misfit, IsExactIn, IsFirstDiffering, IsFitReply, IsVerdictAt, IsVerdictBy, IsVerdictIf, verdict_by}
-use Rattle.rvd_machine.specs.State.{State, Job, job_of}
-use Rattle.rvd_machine.specs.Verdicts.{Batch, first_batch, judged}
+use Rattle.rvd_machine.specs.Proper.{AreMadeFor, IsProperReply, MadeIsProper}
+use Rattle.rvd_machine.specs.State.{job_of}
+use Rattle.rvd_machine.proofs.Proper.{refused_is}
 use Rattle.rvd_desk.specs.Calls.{OfferedBy, OfferFailed}
 use Rattle.rvd_desk.specs.Story.{Story, state_of}
 use Rattle.rvd_desk.specs.declared.answers.DeskError.{DeskError}
 use Rattle.rvd_desk.specs.declared.answers.DeskError.TheVariants.{Refused, JournalFull, Stopped, OutOfMemory}
-use Rattle.rvd_settle.specs.Proper.{AreMadeFor, AreMadeOn, AreProperVerdicts, IsMadeOn, IsProperReply, IsProperVerdict, OfferTakenFailed}
+use Rattle.rvd_settle.specs.Offering.{OfferTakenFailed}
 
--- ---- proposals are made one by one
-pub made-push : (P : Program) (items : List Item) (proposals : List Proposed) (i : Item) (p : Proposed) → AreMadeOn P items proposals → IsMadeOn P i p → AreMadeOn P (items ++ i ∷ []) (proposals ++ p ∷ [])
-made-push P [] [] i p made one = (one, tt)
-made-push P [] (q ∷ proposals) i p made one = absurd made
-made-push P (j ∷ items) [] i p made one = absurd made
-made-push P (j ∷ items) (q ∷ proposals) i p made one = (made.0, made-push P items proposals i p made.1 one)
-
--- ---- they fit the job's items
-fits : (P : Program) (items : List Item) (proposals : List Proposed) → AreMadeOn P items proposals → first_misfit items proposals ≡ None
-fits P [] [] made = refl
-fits P [] (p ∷ proposals) made = absurd made
-fits P (i ∷ items) [] made = absurd made
-fits P (i ∷ items) (p ∷ proposals) made =
-    let same : same_item i p.item ≡ true = ap (same_item i) made.0.item ∙ same_item_itself i in
-    ap (λ (b : Bool). cond b (option_map suc (first_misfit items proposals)) (Some 0)) same
-    ∙ ap (option_map suc) (fits P items proposals made.1)
-
--- ---- the first read that differs is one of the reads, and an ask of the rule
-asked_in : (W : Program) (reads : List (Ask × Answer)) (r : Ask × Answer) → IsFirstDiffering W reads (Some r) → Contains (map (λ (s : Ask × Answer). s.0) reads) r.0
-asked_in W [] r first = absurd (let e : Some r ≡ None = first in cc)
-asked_in W (s ∷ reads) r (inl first) =
-    let rest = asked_in W reads r first.1 in
-    (suc rest.0, omega (arith, rest.1), rest.2)
-asked_in W (s ∷ reads) r (inr first) =
-    let e : r ≡ s = (let f = first.1 in cc) in
-    (0, omega arith, ap (λ (q : Ask × Answer). q.0) (sym e))
-
-held_at : (P W : Program) (reads : List (Ask × Answer)) (r : Ask × Answer) → Hold P reads → IsFirstDiffering W reads (Some r) → IsSame r.1 (ans P r.0)
-held_at P W [] r hold first = absurd (let e : Some r ≡ None = first in cc)
-held_at P W (s ∷ reads) r hold (inl first) = held_at P W reads r hold.1 first.1
-held_at P W (s ∷ reads) r hold (inr first) =
-    let e : r ≡ s = (let f = first.1 in cc) in
-    subst (λ (q : Ask × Answer). IsSame q.1 (ans P q.0)) (sym e) hold.0
-
--- ---- so each verdict is proper
-by_rule : (P : Program) (i : Item) (cs : List Change) (v : Verdict) → v ≡ verdict_by cs → IsProperVerdict P i v
-by_rule P i [] v is = subst (IsProperVerdict P i) (sym is) tt
-by_rule P i (c ∷ cs) v is = subst (IsProperVerdict P i) (sym is) tt
-
-at_read : (P W : Program) (i : Item) (p : Proposed) (r : Ask × Answer) (v : Verdict) → IsMadeOn P i p → IsFirstDiffering W p.reads (Some r) → IsVerdictAt P W r v → IsProperVerdict P i v
-at_read P W i p r v made first (inl at) =
-    let asked : Contains (asks P p.item) r.0 = (made.asked r.0).0 (asked_in W p.reads r first) in
-    subst (IsProperVerdict P i) (sym at.1) (subst (λ (j : Item). Contains (asks P j) r.0) made.item asked)
-at_read P W i p r v made first (inr at) = absurd (at.0 (held_at P W p.reads r made.hold first))
-
-by_found : (P W : Program) (i : Item) (p : Proposed) (found : Option (Ask × Answer)) (v : Verdict) → IsMadeOn P i p → IsFirstDiffering W p.reads found → IsVerdictBy P W p.item found v → IsProperVerdict P i v
-by_found P W i p None v made first is = by_rule P i (rule W p.item) v is
-by_found P W i p (Some r) v made first is = at_read P W i p r v made first is
-
-by_switch : (on : Bool) (P W : Program) (i : Item) (p : Proposed) (v : Verdict) → IsMadeOn P i p → IsVerdictIf on P W p v → IsProperVerdict P i v
-by_switch false P W i p v made is = subst (IsProperVerdict P i) (sym is) tt
-by_switch true P W i p v made is = by_found P W i p is.0 v made is.1 is.2
-
-proper_verdicts : (E : Enabled) (P : Program) (items : List Item) (b : Batch) (proposals : List Proposed) (verdicts : List Verdict) → AreMadeOn P items proposals → AreExactVerdicts E P b proposals verdicts → AreProperVerdicts P items verdicts
-proper_verdicts E P [] b [] verdicts made exact = subst (AreProperVerdicts P []) (sym exact) tt
-proper_verdicts E P [] b (p ∷ proposals) verdicts made exact = absurd made
-proper_verdicts E P (i ∷ items) b [] verdicts made exact = absurd made
-proper_verdicts E P (i ∷ items) b (p ∷ proposals) [] made exact = absurd exact
-proper_verdicts E P (i ∷ items) b (p ∷ proposals) (v ∷ verdicts) made exact = (
-  by_switch (is_on E p.item.analyzer) P b.work i p v made.0 exact.0,
-  proper_verdicts E P items (judged E b p.item v) proposals verdicts made.1 exact.1,
-)
-
--- ---- and so is the reply
-verdicts_of : (vs ws : List Verdict) → reply.Verdicts vs ≡ reply.Verdicts ws → vs ≡ ws
-verdicts_of vs ws same = cc
-
-no_refusal : (vs : List Verdict) (r : Refusal) → reply.Verdicts vs ≡ reply.Refused r → ⊥
-no_refusal vs r same = cc
-
-fit_of : (s : State) (job : Job) (proposals : List Proposed) (r : Reply) → AreMadeOn job.program job.items proposals → IsFitReply s job proposals (first_misfit job.items proposals) r
-    → (verdicts : List Verdict) × (r ≡ reply.Verdicts verdicts) × AreExactVerdicts s.enabled job.program (first_batch s) proposals verdicts
-fit_of s job proposals r made fit = subst (λ (o : Option ℕ). IsFitReply s job proposals o r) (fits job.program job.items proposals made) fit
-
-pub proper_reply : (s : State) (ticket : ℕ) (proposals : List Proposed) (o : Option Job) (verdicts : List Verdict) → AreMadeFor o proposals → IsExactIn s ticket proposals o (reply.Verdicts verdicts)
-    → IsProperReply o (reply.Verdicts verdicts)
-proper_reply s ticket proposals None verdicts made exact = tt
-proper_reply s ticket proposals (Some job) verdicts made exact =
-    let fit = fit_of s job proposals (reply.Verdicts verdicts) made exact in
-    let same : verdicts ≡ fit.0 = verdicts_of verdicts fit.0 fit.1 in
-    subst (AreProperVerdicts job.program job.items) (sym same) (proper_verdicts s.enabled job.program job.items (first_batch s) proposals fit.0 made fit.2)
-
--- a refusal is Cancelled, where there is no job
-refusals : (r t : Refusal) → reply.Refused r ≡ reply.Refused t → r ≡ t
-refusals r t same = cc
-
-pub refused_is : (s : State) (ticket : ℕ) (proposals : List Proposed) (o : Option Job) (r : Refusal) → AreMadeFor o proposals → IsExactIn s ticket proposals o (reply.Refused r)
-    → (r ≡ refusal.Cancelled ticket) × (o ≡ None)
-refused_is s ticket proposals None r made exact = (refusals r (refusal.Cancelled ticket) exact, refl)
-refused_is s ticket proposals (Some job) r made exact =
-    let fit = fit_of s job proposals (reply.Refused r) made exact in
-    absurd (no_refusal fit.0 r (sym fit.1))
-
--- ---- the same of what an offer gives
-pub proper_of : (old new : Story) (worker ticket : ℕ) (proposals : List Proposed) (r : Result (List Verdict) DeskError) → AreMadeFor (job_of ticket (state_of old).taken) proposals
+pub proper_of : MadeIsProper → (old new : Story) (worker ticket : ℕ) (proposals : List Proposed) (r : Result (List Verdict) DeskError) → AreMadeFor (job_of ticket (state_of old).taken) proposals
     → IfOk r (λ (vs : List Verdict). OfferedBy old new worker ticket proposals (reply.Verdicts vs)) → IfOk r (λ (vs : List Verdict). IsProperReply (job_of ticket (state_of old).taken) (reply.Verdicts vs))
-proper_of old new worker ticket proposals (Ok verdicts) made did = proper_reply (state_of old) ticket proposals (job_of ticket (state_of old).taken) verdicts made did.1
-proper_of old new worker ticket proposals (Err error) made did = tt
+proper_of law old new worker ticket proposals (Ok verdicts) made did = law (state_of old) ticket proposals (reply.Verdicts verdicts) made did.1
+proper_of law old new worker ticket proposals (Err error) made did = tt
 
 failed_one : (old new : Story) (worker ticket : ℕ) (proposals : List Proposed) (error : DeskError) → AreMadeFor (job_of ticket (state_of old).taken) proposals → OfferFailed old new worker ticket proposals error → OfferTakenFailed old new worker ticket error
 failed_one old new worker ticket proposals (Refused r) made failed =
@@ -133,7 +24,7 @@ failed_one old new worker ticket proposals (Refused r) made failed =
     (failed.0, is.0, is.1)
 failed_one old new worker ticket proposals (JournalFull n) made failed = failed
 failed_one old new worker ticket proposals (Stopped halt) made failed = failed
-failed_one old new worker ticket proposals OutOfMemory made failed = failed
+failed_one old new worker ticket proposals OutOfMemory made failed = failed.0
 
 pub failed_of : (old new : Story) (worker ticket : ℕ) (proposals : List Proposed) (r : Result (List Verdict) DeskError) → AreMadeFor (job_of ticket (state_of old).taken) proposals
     → IfErr r (λ (error : DeskError). OfferFailed old new worker ticket proposals error) → IfErr r (λ (error : DeskError). OfferTakenFailed old new worker ticket error)

@@ -3,7 +3,8 @@
 //! * [`settle`] takes and offers again and again.
 //! * [`offer_taken`] makes the proposals for one job that is taken, on the job's own program, and offers them.
 //!
-//! The definitions stand in `specs/`: `Proper` says what such offers are answered, and `Settling` how the journal goes on.
+//! The definitions stand in `specs/`: `Offering` says when such an offer is refused, and `Settling` how the journal goes on.
+//! What such offers are answered is defined in rvd_machine (`Proper`).
 #![tactic(auto)]
 
 mod offering;

@@ -1,17 +1,18 @@
 ghost use Rattle.std.specs.Prelude.{◌≡◌, true, IfOk, IfErr};
 ghost use Rattle.rvd_event.specs.declared.events.Event.TheVariants as event;
 ghost use Rattle.rvd_event.specs.declared.replies.Reply.TheVariants as reply;
+ghost use Rattle.rvd_machine.specs.Proper.{AreMadeFor, IsProperReply};
 ghost use Rattle.rvd_machine.specs.State.{job_of};
 ghost use Rattle.rvd_machine.specs.Steps.{may_call};
 ghost use Rattle.rvd_desk.specs.Calls.{Did};
 ghost use Rattle.rvd_desk.specs.Story.{state_of};
-ghost use Rattle.rvd_settle.specs.Proper.{AreMadeFor, AreMadeOn, IsProperReply, OfferTakenFailed};
+ghost use Rattle.rvd_settle.specs.Offering.{OfferTakenFailed};
 
-use rvd_ask::{Item, Proposal};
+use rvd_ask::Proposal;
 use rvd_desk::{Desk, DeskError};
 use rvd_event::VerdictList;
-use rvd_program::Program;
-use rvd_wake::propose;
+use rvd_machine::made_offers_are_proper;
+use rvd_wake::proposals_on;
 use std::alloc::{AllocError, Global};
 
 /// Offers what the analyzers propose for the items of a job that is taken, on the job's own program; for another ticket it
@@ -28,11 +29,12 @@ pub fn offer_taken(
     ensures proper { IfOk result (λ verdicts. IsProperReply (job_of ticket (state_of desk.old).taken) (reply.Verdicts verdicts)) }
     ensures err { IfErr result (λ error. OfferTakenFailed desk.old desk.new worker ticket error) }
 {
+    made_offers_are_proper();
     let proposals = proposals_of(alloc, desk, ticket)?;
     desk.offer(alloc, worker, ticket, proposals)
 }
 
-// What the analyzers propose for a job that is taken, on its program; nothing for another ticket.
+// What the analyzers propose for a job that is taken, on its program, and nothing for another ticket.
 fn proposals_of(alloc: Global, desk: &Desk, ticket: u64) -> Result<Vec<Proposal>, AllocError>
     ensures { IfOk result (λ proposals. AreMadeFor (job_of ticket (state_of desk.now).taken) proposals.items) }
 {
@@ -40,19 +42,4 @@ fn proposals_of(alloc: Global, desk: &Desk, ticket: u64) -> Result<Vec<Proposal>
         Some((items, program)) => proposals_on(alloc, items.list(), program),
         None => Ok(Vec::new(alloc)),
     }
-}
-
-// What the analyzers propose for items on a program, one for each item, in order.
-fn proposals_on(
-    alloc: Global,
-    items: &[Item],
-    program: &Program,
-) -> Result<Vec<Proposal>, AllocError>
-    ensures { IfOk result (λ proposals. AreMadeOn program.now items.now proposals.items) }
-{
-    let mut proposals = Vec::new(alloc);
-    for item in items {
-        proposals.push(propose(alloc, program, *item)?)?;
-    }
-    Ok(proposals)
 }

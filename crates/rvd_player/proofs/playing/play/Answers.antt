@@ -34,7 +34,7 @@ pub loop-line-preserved : goal.loop-line-preserved
 loop-line-preserved c =
     let h = head_of c.args.program c.args.file.now in
     let at : IsLine c.args.file.now c.loop-line.line-index c.line-item.result = line_at c.args.file.now c.lines-lines.result.now c.loop-line.line-index c.line-item.result c.lines-lines.ensures.legal c.lines-lines.ensures.value c.loop-line-test.true c.line-item.is in
-    let first : c.head.result.now.program ≡ c.args.program = c.head.ensures.program ∙ ap (λ (k : Head). k.program) c.loop-line.invariant.plays.head in
+    let first : c.behind-desk.inside.program ≡ c.args.program = ap (λ (h : Head). h.program) c.behind-desk.view_is ∙ ap (λ (h : Head). h.program) c.head.ensures ∙ ap (λ (k : Head). k.program) c.loop-line.invariant.plays.head in
     let told : c.answer_line.new.answers.items ≡ c.loop-line.answers.items ++ answer_to c.args.program c.loop-line.seen.items c.line-item.result c.line-item.result.what =
     c.in_ok-answer_line.ensures
     ∙ ap (λ (P : Program). c.loop-line.answers.items ++ answer_to P c.deref.result.now c.line-item.result c.line-item.result.what) first
