@@ -4,6 +4,7 @@
 //!   of several sessions and workers in one order. Both give the lines that aren't skipped.
 //! * [`Script`] and [`EventFile`] are what was read. Each of their lines has its number in the file
 //!   and a [`What1`]: a call, a query, or the work of a worker until none is left.
+//! * [`number_of`] reads a number in a range, as it is written in these files.
 //! * [`ScriptError`] says why a file isn't read: it has too many lines, or names the first line that
 //!   isn't in the grammar, with the cause of its first bad part from the left.
 //!
@@ -40,3 +41,4 @@ pub use errors::ScriptError;
 pub use reading::{read, read_events};
 pub use script_files::{EventFile, Script};
 pub use script_lines::{EventLine, ScriptLine, What1};
+pub use values::number_of;

@@ -2,5 +2,8 @@ pub mod Words
 pub mod Texts
 pub mod Plays
 pub mod Replays
+pub mod Summary
 pub mod Endings
+pub mod Answers
+pub mod Fetching
 pub mod Runs

@@ -1,109 +1,73 @@
--- What a run of a command promises, as one record that each call cites. A cabinet holds files and counts its faults, and a
--- sink has contents and counts its faults; the run took the cabinet from files to files', the sink from out to out', and
--- ended so.
-use Rattle.std.specs.Prelude.{◌≡◌, ◌↔◌, ◌⊎◌, ℕ, ◌<◌, ◌≤◌, List, length, [], false, Option, Some, Ok}
+-- What a run of a command promises, as one record that each call cites. A cabinet holds files, counts its faults and has fetches, and
+-- a sink has contents and counts its faults; the run took the cabinet from files to files', the sink from out to out', and ended so.
+use Rattle.std.specs.Prelude.{◌≡◌, ◌↔◌, ◌⊎◌, ℕ, List, take, IfErr, Option, None, Some, Result, Ok, Err, Vec}
+use Rattle.std.specs.Result.{IsErrAnd}
+use Rattle.std.specs.declared.alloc.Global.{Global}
 use Rattle.std.specs.Io.KnownBytes.{Appends}
 use Rattle.rvd_io.specs.Causes.{Rose}
-use Rattle.rvd_fact.specs.declared.cells.Change.{Change}
-use Rattle.rvd_fact.specs.Program.{applied_all}
-use Rattle.rvd_elf.specs.Import.{import_of}
-use Rattle.rvd_script.specs.Legal.{Events}
-use Rattle.rvd_script.specs.Files.{events_of}
+use Rattle.rvd_io.specs.declared.cabinets.FetchError.{FetchError}
 use Rattle.rvd_top.specs.declared.endings.Ending.{Ending}
-use Rattle.rvd_top.specs.declared.endings.Ending.TheVariants.{Done, Usage, ReadFault, WriteFault}
-use Rattle.rvd_top.specs.declared.words.Print.{Print}
-use Rattle.rvd_top.specs.Texts.{IsTextOf}
-use Rattle.rvd_event.specs.declared.queries.Names.{Names}
-use Rattle.rvd_journal.specs.declared.entries.Entry.{Entry}
-use Rattle.rvd_journal_text.specs.Lines.{journal_text}
-use Rattle.rvd_line_reading.specs.Front.{BeginsWith}
-use Rattle.rvd_replay.specs.Replayed.{IsJournalOf}
-use Rattle.rvd_top.specs.Plays.{IsPlayed}
-use Rattle.rvd_top.specs.Replays.{IsReplayOf}
-use Rattle.rvd_top.specs.Words.{is_command, print_of, play_of, replay_of}
-use Rattle.rvd_top.specs.Endings.{Ends, EndsAbove, IsDone, IsWithoutFault, KeepsSink, PlayEnds, ReplayEnds}
+use Rattle.rvd_top.specs.declared.endings.Ending.TheVariants.{Done, Usage, ReadFault, WriteFault, Memory}
+use Rattle.rvd_top.specs.declared.words.Command.{Command}
+use Rattle.rvd_top.specs.Words.{command_of, files_of}
+use Rattle.rvd_top.specs.Answers.{Accepts, Answer, Answers, IsWithoutFault}
+use Rattle.rvd_top.specs.Endings.{IsBeforePut, KeepsSink}
+use Rattle.rvd_top.specs.Fetching.{AreHeld, AreWithin, EndsAbove, EndsEarly, FailsAt, PassesLimit}
 
--- the most bytes of a file
-abbrev pub max_file : ℕ
-max_file = 33554432
+-- How a command ends that answers so, and what the sink then holds: the whole text, or a front of it after a fault of writing; else the
+-- ending in its place. Memory may always run out, and whether a fault of reading comes isn't told by the files' bytes.
+abbrev pub EndsBy : (Answer → Type 0) → Option (List ℕ) → Option (List ℕ) → Ending → Type 0
+EndsBy answers old new Memory = Unit {0}
+EndsBy answers old new (ReadFault word) = Unit {0}
+EndsBy answers old new Done = (text : List ℕ) × answers (Ok text) × Appends old new text
+EndsBy answers old new WriteFault = (text : List ℕ) × answers (Ok text) × ((n : ℕ) × Appends old new (take n text))
+EndsBy answers old new ending = answers (Err ending)
 
--- what `show FILE` and `list FILE` promise
-pub record PrintRuns {C K : Type 0} (held : C → List ℕ → Option (List ℕ)) (read_faults : C → ℕ) (contents : K → Option (List ℕ)) (write_faults : K → ℕ)
-    (print : Print) (file : List ℕ) (files files' : C) (out out' : K) (ending : Ending) : Type 0 where
-  -- On Done the file is imported, and the sink gains the text of its facts.
-  pub done : ending ≡ Done → (bytes : List ℕ) → held files file ≡ Some bytes
-      → (changes : List Change) × (text : List ℕ) × (import_of bytes ≡ Ok changes) × IsTextOf print changes text × Appends (contents out) (contents out') text
-  -- Where the file is imported and no count of faults rose, it ends with Done or Memory, or with too many entries by their row.
-  pub complete : (bytes : List ℕ) (changes : List Change) → held files file ≡ Some bytes → length bytes ≤ max_file → import_of bytes ≡ Ok changes
-      → (Rose (read_faults files) (read_faults files') → ⊥) → (Rose (write_faults out) (write_faults out') → ⊥) → IsWithoutFault ending
-  -- Which ending comes of a file whose bytes the cabinet tells: each refusal exactly where the import refuses so, and too
-  -- large exactly where the bytes pass the limit.
-  pub within : (bytes : List ℕ) → held files file ≡ Some bytes → length bytes ≤ max_file → Ends (contents out) (contents out') print bytes ending
-  pub above : (bytes : List ℕ) → held files file ≡ Some bytes → max_file < length bytes → EndsAbove max_file ending
-  -- A fault of reading comes only where the cabinet's count rose.
-  pub read : (word : ℕ) → ending ≡ ReadFault word → (word ≡ 1) × Rose (read_faults files) (read_faults files')
+-- What a command of these words answers, where its files are fetched, or how it ends before; this took the cabinet from s to s'.
+pub record AnswersFrom {C : Type 0} (held : C → List ℕ → Option (List ℕ)) (faults : C → ℕ) (fetched : C → List ℕ → ℕ → Result (Vec ℕ Global) FetchError → C → Type 0)
+    (command : Command) (words : List (List ℕ)) (s s' : C) (answer : Answer) : Type 0 where
+  pub text : (t : List ℕ) → answer ≡ Ok t → (bytes : List (List ℕ)) → AreHeld (held s) (files_of command words) bytes → Answers command words bytes (Ok t)
+  pub within : (bytes : List (List ℕ)) → AreHeld (held s) (files_of command words) bytes → AreWithin (files_of command words) bytes
+      → Answers command words bytes answer ⊎ IfErr answer EndsEarly
+  pub above : (limit : ℕ) → PassesLimit (held s) (files_of command words) limit → IsErrAnd answer (EndsAbove limit)
+  pub read : (word : ℕ) → answer ≡ Err (ReadFault word) → FailsAt held faults fetched (files_of command words) word s s'
+  pub before_put : IfErr answer IsBeforePut
 
--- what `play FILE EVENTS` promises
-pub record PlayRuns {C K : Type 0} (held : C → List ℕ → Option (List ℕ)) (read_faults : C → ℕ) (contents : K → Option (List ℕ)) (write_faults : K → ℕ)
-    (file events : List ℕ) (files files' : C) (out out' : K) (ending : Ending) : Type 0 where
-  -- On Done the file is imported, the event file is in the grammar, and the sink gains a legal journal on the imported program
-  -- whose entries are the event file's calls, the answers to its queries, and the history and the listing of what it leads to.
-  pub done : ending ≡ Done → (bytes lines : List ℕ) → held files file ≡ Some bytes → held files events ≡ Some lines
-      → (changes : List Change) × (script : Events) × (text : List ℕ) × (import_of bytes ≡ Ok changes) × (events_of lines ≡ Ok script)
-      × IsPlayed (applied_all [] changes) script text × Appends (contents out) (contents out') text
-  -- Where both are so, and no count of faults rose, it ends with Done or Memory, or with too many entries by their row.
-  pub complete : (bytes lines : List ℕ) (changes : List Change) (script : Events) → held files file ≡ Some bytes → held files events ≡ Some lines
-      → length bytes ≤ max_file → length lines ≤ max_file → import_of bytes ≡ Ok changes → events_of lines ≡ Ok script
-      → (Rose (read_faults files) (read_faults files') → ⊥) → (Rose (write_faults out) (write_faults out') → ⊥) → IsWithoutFault ending
-  -- Which ending comes of files whose bytes the cabinet tells: each refusal exactly where the import or the grammar refuses
-  -- so, and too large exactly where the bytes of the first or then of the second pass the limit.
-  pub within : (bytes lines : List ℕ) → held files file ≡ Some bytes → held files events ≡ Some lines → length bytes ≤ max_file → length lines ≤ max_file
-      → PlayEnds (contents out) (contents out') bytes lines ending
-  pub above : (bytes : List ℕ) → held files file ≡ Some bytes → max_file < length bytes → EndsAbove max_file ending
-  pub events_above : (bytes lines : List ℕ) → held files file ≡ Some bytes → held files events ≡ Some lines → length bytes ≤ max_file → max_file < length lines
-      → EndsAbove max_file ending
-  -- A fault of reading comes only where the cabinet's count rose.
-  pub read : (word : ℕ) → ending ≡ ReadFault word → ((word ≡ 1) ⊎ (word ≡ 2)) × Rose (read_faults files) (read_faults files')
+-- How a command ends that puts its answer: by the answer's ending, or with its text put, whole or a front of it.
+abbrev pub EndsWith : Option (List ℕ) → Option (List ℕ) → Answer → Ending → Type 0
+EndsWith old new (Err before) ending = ending ≡ before
+EndsWith old new (Ok text) Done = Appends old new text
+EndsWith old new (Ok text) WriteFault = (n : ℕ) × Appends old new (take n text)
+EndsWith old new (Ok text) ending = ⊥
 
--- the most bytes of a journal
-abbrev pub max_journal : ℕ
-max_journal = 1073741824
+-- what a command of these words promises
+pub record CommandRuns {C K : Type 0} (held : C → List ℕ → Option (List ℕ)) (read_faults : C → ℕ)
+    (fetched : C → List ℕ → ℕ → Result (Vec ℕ Global) FetchError → C → Type 0) (contents : K → Option (List ℕ)) (write_faults : K → ℕ)
+    (command : Command) (words : List (List ℕ)) (files files' : C) (out out' : K) (ending : Ending) : Type 0 where
+  -- On Done the sink gains the text that the command answers to the bytes of its files.
+  pub done : ending ≡ Done → (bytes : List (List ℕ)) → AreHeld (held files) (files_of command words) bytes
+      → (text : List ℕ) × Answers command words bytes (Ok text) × Appends (contents out) (contents out') text
+  -- Where the command accepts its files and no count of faults rose, it ends with Done or Memory, or with too many entries where
+  -- it makes a journal.
+  pub complete : (bytes : List (List ℕ)) → AreHeld (held files) (files_of command words) bytes → AreWithin (files_of command words) bytes
+      → Accepts command words bytes → (Rose (read_faults files) (read_faults files') → ⊥) → (Rose (write_faults out) (write_faults out') → ⊥)
+      → IsWithoutFault command ending
+  -- Which ending comes of files whose bytes the cabinet tells, none of which has too many.
+  pub within : (bytes : List (List ℕ)) → AreHeld (held files) (files_of command words) bytes → AreWithin (files_of command words) bytes
+      → EndsBy (Answers command words bytes) (contents out) (contents out') ending
+  -- Which ending comes of the first file that has too many.
+  pub above : (limit : ℕ) → PassesLimit (held files) (files_of command words) limit → EndsAbove limit ending
+  -- A fault of reading names the word whose own fetch raised the cabinet's count.
+  pub read : (word : ℕ) → ending ≡ ReadFault word → FailsAt held read_faults fetched (files_of command words) word files files'
 
--- what `replay FILE JOURNAL` promises
-pub record ReplayRuns {C K : Type 0} (held : C → List ℕ → Option (List ℕ)) (read_faults : C → ℕ) (contents : K → Option (List ℕ)) (write_faults : K → ℕ)
-    (file journal : List ℕ) (files files' : C) (out out' : K) (ending : Ending) : Type 0 where
-  -- On Done the file is imported, the text up to its end line is that of a legal journal of the imported program, and the sink gains
-  -- the history and the listing of what this journal leads to.
-  pub done : ending ≡ Done → (bytes lines : List ℕ) → held files file ≡ Some bytes → held files journal ≡ Some lines
-      → (changes : List Change) × (text : List ℕ) × (import_of bytes ≡ Ok changes) × IsReplayOf (applied_all [] changes) lines text
-      × Appends (contents out) (contents out') text
-  -- Where the file is imported, the text begins with that of a legal journal of its program, and no count of faults rose, it ends
-  -- with Done or Memory.
-  pub complete : (bytes lines : List ℕ) (changes : List Change) (names : Names) (entries : List Entry) → held files file ≡ Some bytes → held files journal ≡ Some lines
-      → length bytes ≤ max_file → length lines ≤ max_journal → import_of bytes ≡ Ok changes → IsJournalOf (applied_all [] changes) names entries
-      → BeginsWith lines (journal_text names entries)
-      → (Rose (read_faults files) (read_faults files') → ⊥) → (Rose (write_faults out) (write_faults out') → ⊥) → IsDone ending
-  -- Which ending comes of files whose bytes the cabinet tells: each refusal exactly where the import refuses so, the first line
-  -- that differs where the text begins with that of no legal journal, and too large exactly where the bytes of the first or
-  -- then of the second pass their limit.
-  pub within : (bytes lines : List ℕ) → held files file ≡ Some bytes → held files journal ≡ Some lines → length bytes ≤ max_file → length lines ≤ max_journal
-      → ReplayEnds (contents out) (contents out') bytes lines ending
-  pub above : (bytes : List ℕ) → held files file ≡ Some bytes → max_file < length bytes → EndsAbove max_file ending
-  pub journal_above : (bytes lines : List ℕ) → held files file ≡ Some bytes → held files journal ≡ Some lines → length bytes ≤ max_file → max_journal < length lines
-      → EndsAbove max_journal ending
-  -- A fault of reading comes only where the cabinet's count rose.
-  pub read : (word : ℕ) → ending ≡ ReadFault word → ((word ≡ 1) ⊎ (word ≡ 2)) × Rose (read_faults files) (read_faults files')
-
-pub record Runs {C K : Type 0} (held : C → List ℕ → Option (List ℕ)) (read_faults : C → ℕ) (contents : K → Option (List ℕ)) (write_faults : K → ℕ)
+pub record Runs {C K : Type 0} (held : C → List ℕ → Option (List ℕ)) (read_faults : C → ℕ)
+    (fetched : C → List ℕ → ℕ → Result (Vec ℕ Global) FetchError → C → Type 0) (contents : K → Option (List ℕ)) (write_faults : K → ℕ)
     (words : List (List ℕ)) (files files' : C) (out out' : K) (ending : Ending) : Type 0 where
   -- Usage comes exactly where the words are no command.
-  pub usage : (ending ≡ Usage) ↔ (is_command words ≡ false)
-  pub prints : (print : Print) (file : List ℕ) → print_of words ≡ Some (print, file)
-      → PrintRuns held read_faults contents write_faults print file files files' out out' ending
-  pub plays : (file events : List ℕ) → play_of words ≡ Some (file, events)
-      → PlayRuns held read_faults contents write_faults file events files files' out out' ending
-  pub replays : (file journal : List ℕ) → replay_of words ≡ Some (file, journal)
-      → ReplayRuns held read_faults contents write_faults file journal files files' out out' ending
+  pub usage : (ending ≡ Usage) ↔ (command_of words ≡ None)
+  -- What any command promises.
+  pub runs : (command : Command) → command_of words ≡ Some command
+      → CommandRuns held read_faults fetched contents write_faults command words files files' out out' ending
   -- The sink is as it was on each ending but Done and WriteFault.
   pub sink : KeepsSink ending out out'
   -- A fault of writing comes only where the sink's count rose.

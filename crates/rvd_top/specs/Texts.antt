@@ -1,21 +1,17 @@
--- What is printed of the facts of a file. Use `IsTextOf` for the whole text of a command.
+-- What is printed of the facts of a file. Use `block_lines` for its blocks, and `IsListed` for the listing after a whole analysis.
 use Rattle.std.specs.Prelude.{◌≡◌, ℕ, Bool, true, false, List, [], ◌∷◌, ◌++◌, flat_map, codes, Option, None, Some, if◌then◌else◌}
 use Rattle.rvd_fact.specs.declared.keys.Key.{Key}
 use Rattle.rvd_fact.specs.declared.cells.Cell.{Cell}
 use Rattle.rvd_fact.specs.declared.cells.Change.{Change}
 use Rattle.rvd_fact.specs.declared.values.Value.{Value}
 use Rattle.rvd_fact.specs.declared.values.Value.TheVariants.{Block}
-use Rattle.rvd_fact.specs.Program.{applied_all, Program}
+use Rattle.rvd_fact.specs.Program.{Program}
 use Rattle.rvd_text.specs.Hex.{hex8}
 use Rattle.rvd_notation.specs.Values.{value_text}
 use Rattle.rvd_report.specs.Listing.{listing}
 use Rattle.rvd_machine.specs.State.{base}
 use Rattle.rvd_desk.specs.Story.{Story, state_of}
-use Rattle.rvd_desk.specs.declared.answers.DeskError.{DeskError}
-use Rattle.rvd_desk.specs.declared.answers.DeskError.TheVariants.{Refused, JournalFull, Stopped, OutOfMemory}
-use Rattle.rvd_player.specs.Analysed.{FillsAnalysis, IsAnalysed}
-use Rattle.rvd_top.specs.declared.words.Print.{Print}
-use Rattle.rvd_top.specs.declared.words.Print.TheVariants.{Blocks, Listing}
+use Rattle.rvd_player.specs.Analysed.{IsAnalysed}
 
 abbrev pub is_block : Value → Bool
 is_block (Block len perm bytes) = true
@@ -43,20 +39,3 @@ pub record IsListed (P : Program) (text : List ℕ) : Type 0 where
   pub reached : Story
   pub analysed : IsAnalysed P reached
   pub is_text : text ≡ listing (base (state_of reached))
-
--- what a command prints of the facts of a file: the lines of its blocks, or the listing of the program that they make after
--- a whole analysis
-abbrev pub IsTextOf : Print → List Change → List ℕ → Type 0
-IsTextOf Blocks changes text = text ≡ block_lines changes
-IsTextOf Listing changes text = IsListed (applied_all [] changes) text
-
--- the journal of the analysis is full
-abbrev pub PrintFills : Print → List Change → Type 0
-PrintFills Blocks changes = ⊥
-PrintFills Listing changes = (count : ℕ) × FillsAnalysis (applied_all [] changes) count
-
-abbrev pub PrintFails : Print → List Change → DeskError → Type 0
-PrintFails print changes (Refused refusal) = ⊥
-PrintFails print changes (JournalFull count) = PrintFills print changes
-PrintFails print changes (Stopped halt) = ⊥
-PrintFails print changes OutOfMemory = Unit {0}

@@ -1,35 +1,75 @@
--- The command words. A list of words is a command exactly where it passes `is_command`; `print_of`, `play_of` and
--- `replay_of` say which.
-use Rattle.std.specs.Prelude.{ℕ, Bool, ◌&&◌, ◌||◌, not, is_some, ◌==◌, nat_lt, if◌then◌else◌, List, [], ◌∷◌, length, slice_index, codes, Option, None, Some}
-use Rattle.std.specs.Option.{option_map}
+-- The command words. A list of words is a command exactly where `command_of` tells one; `files_of` says which of the words name
+-- its files.
+use Rattle.std.specs.Prelude.{ℕ, ◌+◌, Bool, ◌&&◌, ◌||◌, ◌==◌, nat_lt, if◌then◌else◌, List, [], ◌∷◌, length, drop, slice_index, codes, Option, None, Some}
 use Rattle.std.specs.Str.{bytes_eq}
-use Rattle.rvd_top.specs.declared.words.Print.{Print}
-use Rattle.rvd_top.specs.declared.words.Print.TheVariants.{Blocks, Listing}
+use Rattle.rvd_top.specs.declared.words.Command.{Command}
+use Rattle.rvd_top.specs.declared.words.Command.TheVariants as command
 
 abbrev pub begins_with_dash : List ℕ → Bool
 begins_with_dash word = nat_lt 0 (length word) && (slice_index word 0 == 45)
 
--- what a command of this name prints
-abbrev pub print_named : List ℕ → Option Print
-print_named word = if bytes_eq word (codes "show") then Some Blocks else (if bytes_eq word (codes "list") then Some Listing else None)
+-- the commands of one further word, and those of two
+abbrev pub command_of_one : List ℕ → Option Command
+command_of_one word =
+    if bytes_eq word (codes "show") then Some command.Show
+    else (if bytes_eq word (codes "list") then Some command.List
+    else (if bytes_eq word (codes "gen") then Some command.Gen
+    else None))
 
--- `show FILE` and `list FILE`, where FILE doesn't begin with a dash
-abbrev pub print_of : List (List ℕ) → Option (Print × List ℕ)
-print_of (word ∷ file ∷ []) = if begins_with_dash file then None else option_map (λ print. (print, file)) (print_named word)
-print_of words = None
+abbrev pub command_of_two : List ℕ → Option Command
+command_of_two word =
+    if bytes_eq word (codes "play") then Some command.Play
+    else (if bytes_eq word (codes "replay") then Some command.Replay
+    else None)
 
--- a command of this name on two files, neither of which begins with a dash
-abbrev pub pair_of : List ℕ → List (List ℕ) → Option (List ℕ × List ℕ)
-pair_of name (word ∷ first ∷ second ∷ []) = if bytes_eq word name && not (begins_with_dash first || begins_with_dash second) then Some (first, second) else None
-pair_of name words = None
+-- a command and its further words, none of which begins with a dash
+abbrev pub command_of : List (List ℕ) → Option Command
+command_of (word ∷ first ∷ []) = if begins_with_dash first then None else command_of_one word
+command_of (word ∷ first ∷ second ∷ []) = if begins_with_dash first || begins_with_dash second then None else command_of_two word
+command_of words = None
 
--- `play FILE EVENTS` and `replay FILE JOURNAL`
-abbrev pub play_of : List (List ℕ) → Option (List ℕ × List ℕ)
-play_of words = pair_of (codes "play") words
+-- the most bytes of a file, and of a journal
+abbrev pub max_file : ℕ
+max_file = 33554432
 
-abbrev pub replay_of : List (List ℕ) → Option (List ℕ × List ℕ)
-replay_of words = pair_of (codes "replay") words
+abbrev pub max_journal : ℕ
+max_journal = 1073741824
 
--- whether words are a command
-abbrev pub is_command : List (List ℕ) → Bool
-is_command words = is_some (print_of words) || (is_some (play_of words) || is_some (replay_of words))
+-- the most bytes of the file that a word of a command names, by its place
+abbrev pub limit_at : Command → ℕ → ℕ
+limit_at command.Show word = max_file
+limit_at command.List word = max_file
+limit_at command.Play word = max_file
+limit_at command.Replay word = if word == 2 then max_journal else max_file
+limit_at command.Gen word = max_file
+
+-- a file of a command: the place of the word that names it, counted from 0, the name, and the most bytes that it may have
+pub record Source : Type 0 where
+  pub word : ℕ
+  pub name : List ℕ
+  pub limit : ℕ
+
+abbrev pub source : ℕ → List ℕ → ℕ → Source
+source word name limit = record { word = word; name = name; limit = limit }
+
+-- the files that words name, the first of which stands at a place
+abbrev pub sources : Command → ℕ → List (List ℕ) → List Source
+sources command word [] = []
+sources command word (name ∷ names) = source word name (limit_at command word) ∷ sources command (word + 1) names
+
+-- the names of a command's files: all words behind the first; that of `gen` is a number
+abbrev pub names_in : Command → List (List ℕ) → List (List ℕ)
+names_in command.Gen words = []
+names_in command words = drop 1 words
+
+-- the files of a command, in word order
+abbrev pub files_of : Command → List (List ℕ) → List Source
+files_of command words = sources command 1 (names_in command words)
+
+-- how many files a command has
+abbrev pub file_count : Command → ℕ
+file_count command.Show = 1
+file_count command.List = 1
+file_count command.Play = 2
+file_count command.Replay = 2
+file_count command.Gen = 0

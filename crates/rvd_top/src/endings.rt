@@ -1,9 +1,11 @@
 ghost use Rattle.std.specs.Prelude.{◌≡◌};
+ghost use Rattle.rvd_top.specs.declared.endings.Ending.TheVariants.{Memory};
 
 use rvd_desk::DeskError;
 use rvd_elf::ElfError;
 use rvd_fact::{TextCause, What};
 use rvd_script::ScriptError;
+use std::alloc::AllocError;
 
 /// The most entries of a journal.
 const MOST_ENTRIES: u64 = 1_000_000;
@@ -46,8 +48,16 @@ pub enum Ending {
     },
 }
 
+impl From<AllocError> for Ending {
+    ghost from_gives = { λ _ ending. ending ≡ Memory };
+
+    fn from(_: AllocError) -> Ending {
+        Ending::Memory
+    }
+}
+
 impl Ending {
-    ghost use Rattle.rvd_top.specs.Endings.{IsFault, IsUnstopped, desk_ending, ending_of, script_ending, status_of};
+    ghost use Rattle.rvd_top.specs.Endings.{IsAnswered, IsUnstopped, desk_ending, ending_of, script_ending, status_of};
 
     /// The exit status, 0 to 9 in the order of the variants.
     pub fn status(&self) -> u8
@@ -70,8 +80,7 @@ impl Ending {
     /// The ending for a refusal of the import.
     pub(crate) fn of_refusal(refusal: ElfError) -> Ending
         ensures ending { result ≡ ending_of refusal }
-        ensures no_fault { IsFault result → ⊥ }
-        ensures usage { result ≡ Ending.Usage → ⊥ }
+        ensures answered { IsAnswered result }
     {
         match refusal {
             ElfError::BadEntrySize(..)
@@ -86,22 +95,17 @@ impl Ending {
         }
     }
 
-    /// The ending for a refusal of an event file.
-    pub(crate) fn of_script(refusal: ScriptError) -> Ending
-        ensures ending { result ≡ script_ending refusal }
-        ensures no_fault { IsFault result → ⊥ }
-        ensures usage { result ≡ Ending.Usage → ⊥ }
+    /// The ending for a refusal of the script or event file that a word names, by the word's place.
+    pub(crate) fn of_script(word: u32, refusal: ScriptError) -> Ending
+        ensures ending { result ≡ script_ending word refusal }
+        ensures answered { IsAnswered result }
     {
         match refusal {
             ScriptError::TooManyLines(count) => Ending::TooLarge {
                 what: What::Lines,
                 count,
             },
-            ScriptError::Bad { line, cause } => Ending::BadText {
-                word: 2,
-                line,
-                cause,
-            },
+            ScriptError::Bad { line, cause } => Ending::BadText { word, line, cause },
             ScriptError::OutOfMemory => Ending::Memory,
         }
     }
@@ -110,8 +114,7 @@ impl Ending {
     pub(crate) fn of_desk(error: DeskError) -> Ending
         requires { IsUnstopped error }
         ensures ending { result ≡ desk_ending error }
-        ensures no_fault { IsFault result → ⊥ }
-        ensures usage { result ≡ Ending.Usage → ⊥ }
+        ensures answered { IsAnswered result }
     {
         match error {
             DeskError::JournalFull(_) => Ending::TooLarge {

@@ -1,29 +1,25 @@
-ghost use Rattle.std.specs.Prelude.{◌≡◌, ◌≢◌, ◌⊎◌, ◌≤◌, ℕ, List, Some, IfOk, IfErr, length};
-ghost use Rattle.rvd_io.specs.Causes.{Rose};
-ghost use Rattle.rvd_top.specs.Endings.{EndsAbove};
+ghost use Rattle.std.specs.Prelude.{◌≡◌, ◌++◌, ◌+◌, ◌^◌, ◌<◌, [], ◌∷◌, ℕ, List, Vec, OnOk, IfOk, IfErr, length, map, string_bytes};
+ghost use Rattle.std.specs.declared.alloc.Global.{Global as GlobalType};
+ghost use Rattle.rvd_top.specs.Words.{source, sources};
+ghost use Rattle.rvd_top.specs.Fetching.{Fetched, FetchedAll, NotFetched};
 
 use crate::endings::Ending;
+use crate::words::Command;
 use rvd_fact::What;
 use rvd_io::{Cabinet, FetchError};
 use std::alloc::Global;
 
-/// The bytes of the file at a word, counted from 0, where there are at most `limit`; else how a command ends without them: for want
-/// of memory, too large, or with a fault of reading where the count of faults rose.
-pub(crate) fn fetch_word<C: Cabinet>(
+// The bytes of the file that a word names, where there are at most `limit`; else how a command ends without them: for want
+// of memory, too large, or with a fault of reading where the count of faults rose.
+fn fetch_word<C: Cabinet>(
     alloc: Global,
     files: &mut C,
     word: u32,
     name: &str,
     limit: u64,
 ) -> Result<Vec<u8>, Ending>
-    ensures held { C.held files.new ≡ C.held files.old }
-    ensures later { C.faults files.old ≤ C.faults files.new }
-    ensures bytes { IfOk result (λ got. (bytes : List ℕ) → C.held files.old name.now ≡ Some bytes → (got.items ≡ bytes) × (length bytes ≤ limit)) }
-    ensures within { IfErr result (λ ending. (bytes : List ℕ) → C.held files.old name.now ≡ Some bytes → length bytes ≤ limit
-        → (ending ≡ Ending.Memory) ⊎ ((ending ≡ Ending.ReadFault word) × Rose (C.faults files.old) (C.faults files.new))) }
-    ensures above { IfErr result (λ ending. (bytes : List ℕ) → C.held files.old name.now ≡ Some bytes → EndsAbove limit ending) }
-    ensures read { IfErr result (λ ending. (at : ℕ) → ending ≡ Ending.ReadFault at → (at ≡ word) × Rose (C.faults files.old) (C.faults files.new)) }
-    ensures neither { IfErr result (λ ending. (ending ≢ Ending.Done) × (ending ≢ Ending.Usage) × (ending ≢ Ending.WriteFault)) }
+    ensures ok { IfOk result (λ got. Fetched C.held C.faults C.fetched (source word name.now limit) files.old files.new got) }
+    ensures err { IfErr result (λ ending. NotFetched C.held C.faults C.fetched (source word name.now limit ∷ []) files.old files.new ending) }
 {
     match files.fetch(alloc, name, limit) {
         Ok(bytes) => Ok(bytes),
@@ -34,4 +30,29 @@ pub(crate) fn fetch_word<C: Cabinet>(
         }),
         Err(FetchError::OutOfMemory) => Err(Ending::Memory),
     }
+}
+
+/// Fetches the files that words name, in their order, up to the first that gives no bytes, and appends the bytes of each. The
+/// first of the words stands at a place among the words of the command.
+pub(crate) fn fetch_files<C: Cabinet>(
+    alloc: Global,
+    files: &mut C,
+    command: Command,
+    word: u32,
+    names: &[String],
+    lists: &mut Vec<Vec<u8>>,
+) -> Result<(), Ending>
+    requires { word + length names.now < 2 ^ 32 }
+    ensures ok { OnOk result ((more : List (Vec ℕ GlobalType)) × (lists.new.items ≡ lists.old.items ++ more)
+        × FetchedAll (C.held files.old) (sources command word (map string_bytes names.now)) (map (λ v. v.items) more)) }
+    ensures err { IfErr result (λ ending. NotFetched C.held C.faults C.fetched (sources command word (map string_bytes names.now)) files.old files.new ending) }
+{
+    let Some((name, rest)) = names.split_first() else {
+        return Ok(());
+    };
+    let bytes = fetch_word(alloc, files, word, name.as_str(), command.limit_at(word))?;
+    if let Err(_) = lists.push(bytes) {
+        return Err(Ending::Memory);
+    }
+    fetch_files(alloc, files, command, word + 1, rest, lists)
 }

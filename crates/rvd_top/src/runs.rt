@@ -1,42 +1,53 @@
-ghost use Rattle.std.specs.Prelude.{◌≡◌, ◌≤◌, map, string_bytes, vec_len};
-ghost use Rattle.rvd_top.specs.Runs.{Runs};
+ghost use Rattle.std.specs.Prelude.{◌≡◌, ◌≤◌, Some, map, string_bytes, vec_len};
+ghost use Rattle.rvd_top.specs.Answers.{answer_of};
+ghost use Rattle.rvd_top.specs.Words.{command_of};
+ghost use Rattle.rvd_top.specs.Runs.{AnswersFrom, Runs};
 
+use crate::commands::answer;
 use crate::endings::Ending;
-use crate::play_runs::run_play;
-use crate::print_runs::run_print;
-use crate::replay_runs::run_replay;
-use crate::words::{parse_pair, parse_print};
+use crate::fetching::fetch_files;
+use crate::putting::put_answer;
+use crate::words::{Command, command_of};
 use rvd_io::{Cabinet, Gate, Sink};
 use std::alloc::Global;
 use std::sync::Wait;
 use std::thread::Threads;
 
-/// The most bytes of an ELF file, a script or an event file.
-pub const MAX_FILE: u64 = 33_554_432;
-
-/// The most bytes of a journal.
-pub const MAX_JOURNAL: u64 = 1_073_741_824;
+// Fetches the files of a command in word order and answers them.
+fn answered<C: Cabinet>(
+    alloc: Global,
+    command: Command,
+    words: &[String],
+    files: &mut C,
+) -> Result<Vec<u8>, Ending>
+    requires { command_of (map string_bytes words.now) ≡ Some command }
+    ensures { AnswersFrom C.held C.faults C.fetched command (map string_bytes words.now) files.old files.new (answer_of result) }
+{
+    let mut lists = Vec::new(alloc);
+    fetch_files(
+        alloc,
+        files,
+        command,
+        1,
+        command.names_in(words),
+        &mut lists,
+    )?;
+    answer(alloc, command, words, &lists)
+}
 
 /// Runs a command that waits for nobody, and returns. What it promises is the record `Runs`.
-#[tactic(auto, using(crate::proofs::Commands::no_pair, crate::proofs::Commands::no_replay))]
 pub fn run_plain<C: Cabinet, K: Sink>(
     alloc: Global,
     words: &[String],
     files: &mut C,
     out: &mut K,
 ) -> Ending
-    ensures { Runs C.held C.faults K.contents K.faults (map string_bytes words.now) files.old files.new out.old out.new result }
+    ensures { Runs C.held C.faults C.fetched K.contents K.faults (map string_bytes words.now) files.old files.new out.old out.new result }
 {
-    if let Some((print, file)) = parse_print(words) {
-        return run_print(alloc, print, file, files, out);
+    match command_of(words) {
+        Some(command) => put_answer(out, answered(alloc, command, words, files)),
+        None => Ending::Usage,
     }
-    if let Some((file, events)) = parse_pair(words, "play") {
-        return run_play(alloc, file, events, files, out);
-    }
-    if let Some((file, journal)) = parse_pair(words, "replay") {
-        return run_replay(alloc, file, journal, files, out);
-    }
-    Ending::Usage
 }
 
 /// Runs a command. There are at least 8 gates, one for each worker. What it promises is the record
@@ -50,10 +61,16 @@ pub fn run<R: Threads + Wait + Sync, C: Cabinet, K: Sink, G: Gate + Send + Drop>
     _gates: Vec<G>,
 ) -> Ending
     requires { 8 ≤ vec_len _gates }
-    ensures { Runs C.held C.faults K.contents K.faults (map string_bytes words.now) files.old files.new out.old out.new result }
+    ensures { Runs C.held C.faults C.fetched K.contents K.faults (map string_bytes words.now) files.old files.new out.old out.new result }
 {
     run_plain(alloc, words, files, out)
 }
 
+#[cfg(test)]
+mod gen_tests;
+#[cfg(test)]
+mod play_tests;
+#[cfg(test)]
+mod replay_tests;
 #[cfg(test)]
 mod tests;
