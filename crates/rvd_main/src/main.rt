@@ -30,11 +30,22 @@ fn open_gates(alloc: Global) -> Result<Vec<OpenGate>, AllocError>
     Vec::from_slice(alloc, &[OpenGate; 8])
 }
 
+// How the program ends whose words can't be read: words that are no text are no command.
+fn ending_without_words(error: &io::Error) -> Ending {
+    match error.kind() {
+        io::ErrorKind::OutOfMemory => Ending::Memory,
+        _ => Ending::Usage,
+    }
+}
+
 fn main(rt: HostRuntime) -> ExitCode {
-    // Words that are no text are no command.
-    let Ok(words) = words_of(&rt) else {
-        let _ = report(&rt, &[], &Ending::Usage);
-        return ExitCode::from(Ending::Usage.status());
+    let words = match words_of(&rt) {
+        Ok(words) => words,
+        Err(error) => {
+            let ending = ending_without_words(&error);
+            let _ = report(&rt, &[], &ending);
+            return ExitCode::from(ending.status());
+        }
     };
     let ending = match open_gates(rt.alloc()) {
         Ok(gates) => {

@@ -70,7 +70,7 @@ pub fn report(rt: &impl Eprint, words: &[String], ending: &Ending) -> io::Result
         Ending::Done => Ok(()),
         Ending::Usage => {
             eprintln!(rt;
-                "usage: rvd show FILE, rvd list FILE, rvd play FILE EVENTS, or rvd replay FILE JOURNAL"
+                "usage: rvd show FILE, rvd list FILE, rvd play FILE EVENTS, rvd replay FILE JOURNAL, or rvd gen N"
             )
         }
         Ending::ReadFault { word } => {
@@ -79,6 +79,11 @@ pub fn report(rt: &impl Eprint, words: &[String], ending: &Ending) -> io::Result
         }
         Ending::NotThisKind(refusal) => eprintln!(rt; "rvd: {file}: {refusal}"),
         Ending::Damaged(refusal) => report_damage(rt, file, refusal),
+        // The first word behind the command names the executable, or is the number that `gen` takes.
+        Ending::BadText { word: 1, cause, .. } => {
+            let cause = cause_of(cause);
+            eprintln!(rt; "rvd: {file}: {cause}")
+        }
         Ending::BadText { word, line, cause } => {
             let (file, cause) = (word_at(words, word as usize), cause_of(cause));
             eprintln!(rt; "rvd: {file}: line {line}: {cause}")
